@@ -1,0 +1,6 @@
+-- What a reader must believe: document 01 as definitions that compute.
+pub mod Lists
+pub mod Network
+pub mod Components
+pub mod Skeleton
+pub mod Plan

@@ -1,0 +1,1 @@
+-- Every theorem about the definitions of `rules`.

@@ -1,0 +1,1 @@
+// No code: every theorem about the definitions of `rules` stands in proofs/.
