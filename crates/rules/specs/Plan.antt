@@ -62,6 +62,12 @@ pairing r (v ∷ vs) ws =
 pub data Why : Type 0 where
   ring chain back : Why
 
+-- its number in a list of numbers
+abbrev pub why-number : Why → ℕ
+why-number ring = 0
+why-number chain = 1
+why-number back = 2
+
 -- a link: from a zone, to a zone, and why
 pub record Link : Type 0 where
   pub start : ℕ

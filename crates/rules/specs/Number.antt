@@ -1,0 +1,75 @@
+-- A number of a network file (document 01, "The network file").
+--   number-bytes n    the bytes that a number is written as, lowest group of seven bits first
+--   Reading           what reading at a place finds: a value and the place after it, or the first trouble
+--   number-at s at    reading the number at a place of the bytes s
+-- A byte 0 to 127 ends a number, 128 to 255 says that another group follows. Each group asks for a byte of its own, so
+-- a number is tested for 1 SHORT, 2 LONG and 3 LOOSE group by group, and at most one of the three can hold.
+use Prim.Native.Nat.{ℕ, _+_, _-_, _*_, _/_, _%_}
+use mathlib.Core.List.{List, [], _∷_}
+use mathlib.Core.Bool.{Bool, true, false, cond}
+use lib.ListN.{length, getD}
+use lib.Dec.{ltb, leb, eqb}
+use Rattle.rules.specs.Answers.{Refusal}
+
+-- the bytes of a number: one, two or three groups, and the last of several is not zero
+unfoldable pub number-bytes : ℕ → List ℕ
+number-bytes n =
+    cond (ltb n 128) (n ∷ [])
+    (cond (ltb n 16384) ((128 + n % 128) ∷ (n / 128) ∷ [])
+    ((128 + n % 128) ∷ (128 + n / 128 % 128) ∷ (n / 16384) ∷ []))
+
+-- a value that was read and the place after it, or the first trouble
+pub data Reading (A : Type 0) : Type 0 where
+  got : A → ℕ → Reading A
+  bad : Refusal → Reading A
+
+-- reads on after what was read; a trouble stays
+abbrev pub then : {A B : Type 0} → Reading A → (A → ℕ → Reading B) → Reading B
+then (got x at) f = f x at
+then (bad t) f = bad t
+
+-- the refusal of a number at a place
+abbrev pub refusal : ℕ → ℕ → Refusal
+refusal k at = record { number = k; place = at }
+
+-- refuses where a test holds, and reads on where it does not
+abbrev pub unless : {A : Type 0} → Bool → Refusal → Reading A → Reading A
+unless b t r = cond b (bad t) r
+
+module _ (s : List ℕ) (at : ℕ) where
+  -- 1 SHORT: the bytes end inside a number, or before a number that is due; placed at the length of the input
+  abbrev pub short : Refusal
+  short = refusal 1 (length s)
+
+  -- 2 LONG: a third group says that another follows; placed at the number's first byte
+  abbrev pub long : Refusal
+  long = refusal 2 at
+
+  -- 3 LOOSE: the last of several groups is zero; placed at the number's first byte
+  abbrev pub loose : Refusal
+  loose = refusal 3 at
+
+  -- the third group, after two that are worth `low`
+  unfoldable pub third-group : ℕ → Reading ℕ
+  third-group low =
+      let b = getD s (at + 2) 0 in
+      unless (leb (length s) (at + 2)) short
+      (unless (eqb b 0) loose
+      (cond (ltb b 128) (got (low + 16384 * b) (at + 3)) (bad long)))
+
+  -- the second group, after one that is worth `low`
+  unfoldable pub second-group : ℕ → Reading ℕ
+  unfolding third-group
+  second-group low =
+      let b = getD s (at + 1) 0 in
+      unless (leb (length s) (at + 1)) short
+      (unless (eqb b 0) loose
+      (cond (ltb b 128) (got (low + 128 * b) (at + 2)) (third-group (low + 128 * (b - 128)))))
+
+  -- the number at a place
+  unfoldable pub number-at : Reading ℕ
+  unfolding second-group
+  number-at =
+      let b = getD s at 0 in
+      unless (leb (length s) at) short
+      (cond (ltb b 128) (got b (at + 1)) (second-group (b - 128)))
