@@ -44,6 +44,7 @@ zeros-mark w at (suc n) v x ne h fits e = ⊎-elim last (λ l. earlier l (zeros-
         let stored : getD (set w (at + n) x) (at + n) 0 ≡ x = getD-set-same w (at + n) x 0 (omega arith) in
         let rest : zeros (set w (at + n) x) at n ≡ zeros w at n = zeros-other w (at + n) x at n (inr (omega arith)) in
         rw (q, clear, stored, rest, ne-eqb x 0 ne) (omega arith)
+
     earlier : v < n → suc (zeros (set w (at + v) x) at n) ≡ zeros w at n → suc (zeros (set w (at + v) x) at (suc n)) ≡ zeros w at (suc n)
     earlier l rest =
         let kept : getD (set w (at + v) x) (at + n) 0 ≡ getD w (at + n) 0 = getD-set-other w (at + v) (at + n) x 0 (λ q. omega arith) in

@@ -36,7 +36,7 @@ rows-of w zones starts rows =
       zones = zones;
       start = λ z. rows + getD (drop starts w) z 0;
       stop = λ z. rows + getD (drop starts w) (z + 1) 0;
-      head = λ i. getD (drop starts w) (i - starts) 0
+      head = λ i. getD (drop starts w) (i - starts) 0;
     }
 
 -- a run of entries leads from a to b

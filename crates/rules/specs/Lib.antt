@@ -9,3 +9,4 @@ pub mod Number
 pub mod File
 pub mod Calls
 pub mod Text
+pub mod Cases

@@ -1,0 +1,206 @@
+-- The proved cases: one constant table, one test that is computed over all its rows, one statement.
+--   rows             document 01's lettered cases A to L, and eight networks of shapes that these leave out
+--   row-right r      whether the definitions give what the row wants: links in order and counts, a skeleton's file, or a
+--                    refusal's number and place
+--   cases-right      every row is right
+--   kinds-right      the kinds of refusal have the numbers of document 01's table
+--   row-numbers r    the row as the numbers of a constant array, as the crate `cases` holds it and runs it
+-- An arc is one number, 0x23 for the arc from 2 to 3; a link is one number, 0x150 for the chain link from 5 to 0.
+use Prim.Native.Nat.{ℕ, zero, suc, _+_, _-_, _*_, _/_, _%_}
+use mathlib.Core.Path.{_≡_, refl}
+use mathlib.Core.List.{List, [], _∷_, _++_, map}
+use mathlib.Core.Bool.{Bool, true, false, cond, _&&_}
+use lib.ListN.{length, replicate}
+use lib.Dec.{eqb}
+use Rattle.rules.specs.declared.Kind.the-variants.{
+  Short,
+  Long,
+  Loose,
+  Zones,
+  Arcs,
+  Range,
+  SelfArc,
+  Extra,
+  Room,
+  Pair,
+}
+use Rattle.rules.specs.Lists.{run, every}
+use Rattle.rules.specs.Answers.{Told, kind-number}
+use Rattle.rules.specs.Network.{Arc, _⟶_, Network, network-of}
+use Rattle.rules.specs.Components.{sources, sinks, alone}
+use Rattle.rules.specs.Skeleton.{skeleton}
+use Rattle.rules.specs.Plan.{Link, why-number, plan, plan-pairs, plan-need}
+use Rattle.rules.specs.File.{file-bytes}
+use Rattle.rules.specs.Calls.{read-says}
+
+-- a row: document 01's letter (45, a dash, where it has none), what is asked for (0 the plan, 1 the skeleton, 2 reading a
+-- file), the zone count, the arcs or the file's bytes, the links or the bytes of the skeleton's file, and the answer's
+-- numbers: of a plan s, t, q, p and need, of a skeleton its arc count, of a file the refusal's number and place
+pub record Row : Type 0 where
+  pub letter : ℕ
+  pub asks : ℕ
+  pub zones : ℕ
+  pub input : List ℕ
+  pub output : List ℕ
+  pub told : List ℕ
+
+abbrev row : ℕ → ℕ → ℕ → List ℕ → List ℕ → List ℕ → Row
+row letter asks zones input output told =
+    record { letter = letter; asks = asks; zones = zones; input = input; output = output; told = told }
+
+-- the table
+abbrev pub rows : List Row
+rows =
+    -- A: ring and chain
+    row 65 0 6 (0x02 ∷ 0x23 ∷ 0x04 ∷ 0x14 ∷ 0x45 ∷ [])
+    (0x031 ∷ 0x150 ∷ []) (2 ∷ 2 ∷ 0 ∷ 2 ∷ 2 ∷ [])
+    ∷
+    -- B: one zone is strong, alone 1
+    row 66 0 1 []
+    [] (0 ∷ 0 ∷ 1 ∷ 0 ∷ 0 ∷ [])
+    ∷
+    -- C: three alone
+    row 67 0 3 []
+    (0x101 ∷ 0x112 ∷ 0x120 ∷ []) (0 ∷ 0 ∷ 3 ∷ 0 ∷ 3 ∷ [])
+    ∷
+    -- D: one source, one sink
+    row 68 0 2 (0x01 ∷ [])
+    (0x110 ∷ []) (1 ∷ 1 ∷ 0 ∷ 1 ∷ 1 ∷ [])
+    ∷
+    -- E: surplus sinks
+    row 69 0 4 (0x01 ∷ 0x02 ∷ 0x03 ∷ [])
+    (0x112 ∷ 0x123 ∷ 0x130 ∷ []) (1 ∷ 3 ∷ 0 ∷ 1 ∷ 3 ∷ [])
+    ∷
+    -- F: turned round
+    row 70 0 4 (0x10 ∷ 0x20 ∷ 0x30 ∷ [])
+    (0x121 ∷ 0x132 ∷ 0x103 ∷ []) (3 ∷ 1 ∷ 0 ∷ 1 ∷ 3 ∷ [])
+    ∷
+    -- G: a pair and a back link, p = 1
+    row 71 0 4 (0x02 ∷ 0x03 ∷ 0x12 ∷ [])
+    (0x120 ∷ 0x231 ∷ []) (2 ∷ 2 ∷ 0 ∷ 1 ∷ 2 ∷ [])
+    ∷
+    -- H: one alone
+    row 72 0 3 (0x01 ∷ [])
+    (0x112 ∷ 0x120 ∷ []) (1 ∷ 1 ∷ 1 ∷ 1 ∷ 2 ∷ [])
+    ∷
+    -- I: a strong network
+    row 73 0 3 (0x01 ∷ 0x12 ∷ 0x20 ∷ [])
+    [] (0 ∷ 0 ∷ 1 ∷ 0 ∷ 0 ∷ [])
+    ∷
+    -- J: a skeleton, as its file
+    row 74 1 4 (0x01 ∷ 0x12 ∷ 0x02 ∷ 0x21 ∷ 0x23 ∷ 0x03 ∷ [])
+    (0x04 ∷ 0x04 ∷ 0x00 ∷ 0x01 ∷ 0x01 ∷ 0x02 ∷ 0x01 ∷ 0x03 ∷ 0x02 ∷ 0x01 ∷ []) (4 ∷ [])
+    ∷
+    -- K: the empty file
+    row 75 2 0 []
+    [] (1 ∷ 0 ∷ [])
+    ∷
+    -- L: a loose number
+    row 76 2 0 (0x80 ∷ 0x80 ∷ 0x00 ∷ [])
+    [] (3 ∷ 0 ∷ [])
+    ∷
+    -- more sinks than sources, and alone
+    row 45 0 4 (0x01 ∷ 0x02 ∷ [])
+    (0x112 ∷ 0x123 ∷ 0x130 ∷ []) (1 ∷ 2 ∷ 1 ∷ 1 ∷ 3 ∷ [])
+    ∷
+    -- turned round, and alone
+    row 45 0 4 (0x10 ∷ 0x20 ∷ [])
+    (0x121 ∷ 0x132 ∷ 0x103 ∷ []) (2 ∷ 1 ∷ 1 ∷ 1 ∷ 3 ∷ [])
+    ∷
+    -- ring, chain and back
+    row 45 0 6 (0x01 ∷ 0x02 ∷ 0x43 ∷ 0x53 ∷ [])
+    (0x014 ∷ 0x130 ∷ 0x225 ∷ []) (3 ∷ 3 ∷ 0 ∷ 2 ∷ 3 ∷ [])
+    ∷
+    -- turned round, with back
+    row 45 0 5 (0x04 ∷ 0x13 ∷ 0x23 ∷ 0x03 ∷ [])
+    (0x120 ∷ 0x132 ∷ 0x241 ∷ []) (3 ∷ 2 ∷ 0 ∷ 1 ∷ 3 ∷ [])
+    ∷
+    -- turned round, with ring
+    row 45 0 5 (0x01 ∷ 0x23 ∷ 0x43 ∷ [])
+    (0x030 ∷ 0x142 ∷ 0x114 ∷ []) (3 ∷ 2 ∷ 0 ∷ 2 ∷ 3 ∷ [])
+    ∷
+    -- all four at once
+    row 45 0 8 (0x01 ∷ 0x51 ∷ 0x71 ∷ 0x63 ∷ 0x62 ∷ [])
+    (0x020 ∷ 0x176 ∷ 0x147 ∷ 0x114 ∷ 0x235 ∷ []) (4 ∷ 3 ∷ 1 ∷ 2 ∷ 5 ∷ [])
+    ∷
+    -- the lowest sink is not the first met
+    row 45 0 4 (0x01 ∷ 0x02 ∷ 0x13 ∷ [])
+    (0x123 ∷ 0x130 ∷ []) (1 ∷ 2 ∷ 0 ∷ 1 ∷ 2 ∷ [])
+    ∷
+    -- components of several zones as ends
+    row 45 0 5 (0x12 ∷ 0x21 ∷ 0x20 ∷ 0x34 ∷ 0x43 ∷ [])
+    (0x103 ∷ 0x131 ∷ []) (1 ∷ 1 ∷ 1 ∷ 1 ∷ 2 ∷ [])
+    ∷ []
+
+-- whether two lists of numbers are the same
+abbrev same-list : List ℕ → List ℕ → Bool
+same-list [] [] = true
+same-list [] (y ∷ ys) = false
+same-list (x ∷ xs) [] = false
+same-list (x ∷ xs) (y ∷ ys) = eqb x y && same-list xs ys
+
+-- 0x23 is the arc from 2 to 3
+abbrev code-arc : ℕ → Arc
+code-arc x = (x / 16) ⟶ (x % 16)
+
+-- the chain link from 5 to 0 is 0x150
+abbrev link-code : Link → ℕ
+link-code l = why-number (l .why) * 256 + l .start * 16 + l .end
+
+-- the network of a row
+abbrev row-network : Row → Network
+row-network r = network-of (r .zones) (map code-arc (r .input))
+
+-- the plan has the links, in order, and the counts
+plan-right : Row → Bool
+unfolding plan sources sinks alone plan-pairs plan-need
+plan-right r =
+    let N = row-network r in
+    same-list (map link-code (plan N)) (r .output)
+    && same-list (length (sources N) ∷ length (sinks N) ∷ length (alone N) ∷ plan-pairs N ∷ plan-need N ∷ []) (r .told)
+
+-- the skeleton's file has the bytes, and the skeleton the arc count
+skeleton-right : Row → Bool
+unfolding skeleton file-bytes
+skeleton-right r =
+    let es = skeleton (row-network r) in
+    same-list (file-bytes (record { zones = r .zones; arcs = es })) (r .output)
+    && same-list (length es ∷ []) (r .told)
+
+-- reading the file is refused with the number, at the place
+file-right : Row → Bool
+unfolding read-says
+file-right r =
+    let t = read-says (r .input) [] [] in
+    same-list (t .number ∷ t .place ∷ []) (r .told)
+
+-- whether the definitions give what the row wants
+pub row-right : Row → Bool
+unfolding plan-right skeleton-right file-right
+row-right r =
+    elim (eqb (r .asks) 0) [
+      | true ↦ plan-right r
+      | false ↦ elim (eqb (r .asks) 1) [ true ↦ skeleton-right r | false ↦ file-right r ]
+    ]
+
+-- every row of the table is right
+pub cases-right : every row-right rows ≡ true
+unfolding row-right
+cases-right = refl
+
+-- the kinds of refusal, in the order of document 01's table, are numbered from 1 on
+pub kinds-right :
+    map kind-number (Short ∷ Long ∷ Loose ∷ Zones ∷ Arcs ∷ Range ∷ SelfArc ∷ Extra ∷ Room ∷ Pair ∷ []) ≡ run 1 10
+kinds-right = refl
+
+-- a list with zeros after it, n in all
+abbrev padded : ℕ → List ℕ → List ℕ
+padded n xs = xs ++ replicate (n - length xs) 0
+
+-- a row as the 26 numbers of a constant array: letter, what is asked for, zone count, how many numbers are given, these in
+-- six places, how many are wanted, these in ten places, and the answer's numbers in five
+abbrev pub row-numbers : Row → List ℕ
+row-numbers r =
+    r .letter ∷ r .asks ∷ r .zones
+    ∷ length (r .input) ∷ (padded 6 (r .input)
+    ++ (length (r .output) ∷ (padded 10 (r .output) ++ padded 5 (r .told))))
