@@ -197,10 +197,11 @@ kinds-right = refl
 abbrev padded : ℕ → List ℕ → List ℕ
 padded n xs = xs ++ replicate (n - length xs) 0
 
--- a row as the 26 numbers of a constant array: letter, what is asked for, zone count, how many numbers are given, these in
--- six places, how many are wanted, these in ten places, and the answer's numbers in five
-abbrev pub row-numbers : Row → List ℕ
+-- a row as three lists of ten numbers, as a constant array holds it: letter, what is asked for, zone count, how many
+-- numbers are given, how many are wanted, and the answer's numbers; then what is given; then what is wanted
+abbrev pub row-numbers : Row → List (List ℕ)
 row-numbers r =
-    r .letter ∷ r .asks ∷ r .zones
-    ∷ length (r .input) ∷ (padded 6 (r .input)
-    ++ (length (r .output) ∷ (padded 10 (r .output) ++ padded 5 (r .told))))
+    padded 10 (r .letter ∷ r .asks ∷ r .zones ∷ length (r .input) ∷ length (r .output) ∷ r .told)
+    ∷ padded 10 (r .input)
+    ∷ padded 10 (r .output)
+    ∷ []
