@@ -1,1 +1,19 @@
 -- Every theorem about the definitions of `rules`.
+pub mod Bools
+pub mod Lists
+pub mod Counting
+pub mod Ascending
+pub mod Reach
+pub mod Components
+pub mod Turned
+pub mod KindLaws
+pub mod Down
+pub mod Few
+pub mod KindCounts
+pub mod Shuffled
+pub mod Augment
+pub mod Pairing
+pub mod PlanStrong
+pub mod Fewest
+pub mod OrderingLinks
+pub mod PlanCount
