@@ -2,8 +2,9 @@
 --   follows N a b   point 1: the arc from a to b is in the ring of a component
 --   crosses N a b   point 2: the arc from a to b stands between two components
 --   skeleton N      point 3: the arcs of both kinds, each once, ascending by tail, then by head
--- A skeleton is the pairs of zones, in ascending order, that one of the two tests takes, so it is sorted and has no arc
--- twice by the way it is made.
+--   skeleton-of N   the network that they make
+-- A skeleton is the pairs of zones, in ascending order, that one of the two tests takes, so it is sorted and has no
+-- arc twice by the way it is made.
 use Prim.Native.Nat.{ℕ}
 use mathlib.Core.List.{List, map, flatMap}
 use mathlib.Core.Bool.{Bool, true, false, not, _&&_}
@@ -61,3 +62,7 @@ module _ (N : Network) where
   unfoldable pub skeleton : List Arc
   unfolding in-skeleton pairs-of
   skeleton = keep in-skeleton (pairs-of (N .zones))
+
+  -- the zone count stays
+  abbrev pub skeleton-of : Network
+  skeleton-of = record { zones = N .zones; arcs = skeleton }

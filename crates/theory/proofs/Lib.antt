@@ -17,3 +17,10 @@ pub mod PlanStrong
 pub mod Fewest
 pub mod OrderingLinks
 pub mod PlanCount
+pub mod SkeletonLaws
+pub mod Gap
+pub mod SkeletonReach
+pub mod Alike
+pub mod SkeletonSame
+pub mod PlanSame
+pub mod SkeletonLeast
