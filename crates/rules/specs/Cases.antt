@@ -6,10 +6,10 @@
 --   kinds-right      the kinds of refusal have the numbers of document 01's table
 --   row-numbers r    the row as the numbers of a constant array, as the crate `cases` holds it and runs it
 -- An arc is one number, 0x23 for the arc from 2 to 3; a link is one number, 0x150 for the chain link from 5 to 0.
-use Prim.Native.Nat.{ℕ, zero, suc, _+_, _-_, _*_, _/_, _%_}
+use Prim.Native.Nat.{ℕ, _+_, _-_, _*_, _/_, _%_}
 use mathlib.Core.Path.{_≡_, refl}
 use mathlib.Core.List.{List, [], _∷_, _++_, map}
-use mathlib.Core.Bool.{Bool, true, false, cond, _&&_}
+use mathlib.Core.Bool.{Bool, true, false, _&&_}
 use lib.ListN.{length, replicate}
 use lib.Dec.{eqb}
 use Rattle.rules.specs.declared.Kind.the-variants.{
@@ -25,7 +25,7 @@ use Rattle.rules.specs.declared.Kind.the-variants.{
   Pair,
 }
 use Rattle.rules.specs.Lists.{run, every}
-use Rattle.rules.specs.Answers.{Told, kind-number}
+use Rattle.rules.specs.Answers.{kind-number}
 use Rattle.rules.specs.Network.{Arc, _⟶_, Network, network-of}
 use Rattle.rules.specs.Components.{sources, sinks, alone}
 use Rattle.rules.specs.Skeleton.{skeleton}

@@ -4,12 +4,12 @@
 --   file-at s a b      reading the bytes s from left to right to the first trouble, with room for a tails and b heads
 -- A file is: zone count, arc count, then tail and head of each arc. Nothing follows.
 use Prim.Native.Nat.{ℕ, zero, suc}
-use mathlib.Core.List.{List, [], _∷_, _++_, flatMap}
+use mathlib.Core.List.{List, [], _∷_, _++_}
 use mathlib.Core.Bool.{Bool, _||_}
 use lib.ListN.{length}
 use lib.Dec.{ltb, leb, eqb}
 use Rattle.rules.specs.Network.{Arc, _⟶_}
-use Rattle.rules.specs.Number.{number-bytes, Reading, got, bad, then, refusal, unless, number-at}
+use Rattle.rules.specs.Number.{number-bytes, Reading, got, then, refusal, unless, number-at}
 
 -- a network as a file holds it: the zone count and the arcs
 pub record Given : Type 0 where

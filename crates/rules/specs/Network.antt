@@ -2,6 +2,7 @@
 --   a ⟶ b           the arc from zone a to zone b
 --   Network         zones, ascending, and arcs, in any order and with repeats
 --   network-of n es document 01's network: every number below n is a zone
+--   added N es      the network with more arcs
 --   Reach N a b     a reaches b: the meaning;   reaches N a b: the test
 --   Strong N        every zone reaches every zone: the meaning;   strong N: the test
 --   Proper N        zones ascend and arcs are between zones, as in every network that a call accepts
@@ -9,7 +10,7 @@
 -- or goes to k and on from k with its inner zones among ks.
 use Prim.Native.Nat.{ℕ, _<_}
 use mathlib.Core.Path.{_≡_}
-use mathlib.Core.List.{List, [], _∷_, List·Memᴰ as In}
+use mathlib.Core.List.{List, [], _∷_, _++_, List·Memᴰ as In}
 use mathlib.Core.Bool.{Bool, true, false, _&&_}
 use lib.Dec.{eqb}
 use Rattle.rules.specs.Lists.{run, any, every}
@@ -31,6 +32,10 @@ pub record Network : Type 0 where
 -- document 01's network: zones are numbered from 0, and every number below the zone count is a zone
 abbrev pub network-of : ℕ → List Arc → Network
 network-of n es = record { zones = run 0 n; arcs = es }
+
+-- the network with more arcs
+abbrev pub added : Network → List Arc → Network
+added N es = record { zones = N .zones; arcs = N .arcs ++ es }
 
 -- the list ascends from a number below its first on, and no number stands in it twice
 abbrev pub Above : ℕ → List ℕ → Type 0

@@ -6,7 +6,7 @@
 -- a number is tested for 1 SHORT, 2 LONG and 3 LOOSE group by group, and at most one of the three can hold.
 use Prim.Native.Nat.{ℕ, _+_, _-_, _*_, _/_, _%_}
 use mathlib.Core.List.{List, [], _∷_}
-use mathlib.Core.Bool.{Bool, true, false, cond}
+use mathlib.Core.Bool.{Bool, cond}
 use lib.ListN.{length, getD}
 use lib.Dec.{ltb, leb, eqb}
 use Rattle.rules.specs.Answers.{Refusal}

@@ -4,6 +4,7 @@
 --   rings, chains, backs   points 3, 4 and 5
 --   links o xs        the links that an ordering gives, with xs the components alone
 --   upright N         the network on which the rule runs: N, or N turned round where it has more sources than sinks
+--   with-links N ls   the network with the arcs of the links ls added
 --   plan N            the plan;   plan-pairs N   p;   plan-need N   the number of links that the answer carries
 use Prim.Native.Nat.{ℕ, _+_, max}
 use mathlib.Core.List.{List, [], _∷_, _++_, map}
@@ -11,7 +12,7 @@ use mathlib.Core.Option.{Option, none, some}
 use mathlib.Core.Bool.{Bool, true, false}
 use lib.Dec.{leb}
 use lib.ListN.{length, drop}
-use Rattle.rules.specs.Network.{Arc, _⟶_, Network, reaches, strong}
+use Rattle.rules.specs.Network.{Arc, _⟶_, Network, added, reaches, strong}
 use Rattle.rules.specs.Components.{sources, sinks, alone}
 
 -- a source v with a sink w that it reaches
@@ -73,6 +74,14 @@ pub record Link : Type 0 where
   pub start : ℕ
   pub end : ℕ
   pub why : Why
+
+-- the arc that a link is
+abbrev pub link-arc : Link → Arc
+link-arc l = l .start ⟶ l .end
+
+-- the network with the links added
+abbrev pub with-links : Network → List Link → Network
+with-links N ls = added N (map link-arc ls)
 
 -- point 3: from the sink of each pair to the source of the next
 unfoldable pub rings : List Couple → List Link

@@ -8,7 +8,7 @@ use Prim.Native.Char.{code}
 use Prim.Native.String
 use Prim.Native.String.{String}
 use mathlib.Core.List.{List, [], _∷_, _++_}
-use mathlib.Core.Bool.{Bool, true, false}
+use mathlib.Core.Bool.{true, false}
 use lib.ListN.{length}
 use lib.Dec.{ltb}
 use Rattle.rules.specs.Answers.{Refusal}
@@ -16,7 +16,7 @@ use Rattle.rules.specs.Network.{Network, network-of}
 use Rattle.rules.specs.Components.{sources, sinks, alone}
 use Rattle.rules.specs.Plan.{Why, Link, plan, plan-pairs, plan-need}
 use Rattle.rules.specs.Plan.Why.{ring, chain, back}
-use Rattle.rules.specs.Number.{Reading, got, bad}
+use Rattle.rules.specs.Number.{got, bad}
 use Rattle.rules.specs.File.{Given, file-at}
 
 -- the bytes of a quoted text

@@ -14,7 +14,7 @@ use mathlib.Core.List.{List, _++_, map, map-append, List·Memᴰ as In, List·Me
 use native.Mathlib.Omega.{arith}
 use lib.ListN.{length, length-append, length-map}
 use Rattle.rules.specs.Lists.{every}
-use Rattle.rules.specs.Network.{Arc, _⟶_, Network, Proper, Reach, same, step, Strong, strong}
+use Rattle.rules.specs.Network.{Arc, _⟶_, Network, added, Proper, Reach, same, step, Strong, strong}
 use Rattle.rules.specs.Components.{together, name, names, entered, sources, sinks, alone}
 use Rattle.rules.specs.Plan.{turned, plan-need}
 use Rattle.theory.proofs.Bools.{bool-cases, true-not-false}
@@ -43,10 +43,6 @@ use Rattle.theory.proofs.Turned.{
   turned-alone,
   turned-strong,
 }
-
--- the network with more arcs
-abbrev pub added : Network → List Arc → Network
-added N es = record { zones = N .zones; arcs = N .arcs ++ es }
 
 -- a run from outside a set of zones into it has an arc that enters the set
 pub run-enters : {M : Network} (p : ℕ → Bool) {a b : ℕ} → Reach M a b → p a ≡ false → p b ≡ true

@@ -13,9 +13,9 @@ use mathlib.Core.Logic.{_⊎_, inl, inr, _≢_}
 use mathlib.Core.List.{List, [], _∷_, map, List·Memᴰ as In, List·Memᴰ·not-nil, Memᴰ·of-map}
 use native.Mathlib.Omega.{arith}
 use lib.ListN.{length, length-map}
-use Rattle.rules.specs.Network.{Arc, _⟶_, Network, Proper, Strong, reaches, strong}
+use Rattle.rules.specs.Network.{Arc, Network, added, Proper, Strong, reaches, strong}
 use Rattle.rules.specs.Components.{names, sources, sinks, alone}
-use Rattle.rules.specs.Plan.{Link, turned, turned-link, is-upright, ordering, upright-plan, plan, plan-need}
+use Rattle.rules.specs.Plan.{Link, link-arc, with-links, turned, turned-link, is-upright, ordering, upright-plan, plan, plan-need}
 use Rattle.theory.proofs.Bools.{bool-cases}
 use Rattle.theory.proofs.KindLaws.{
   source-is,
@@ -47,7 +47,6 @@ use Rattle.theory.proofs.Pairing.{
   made-sink-count,
 }
 use Rattle.theory.proofs.PlanStrong.{
-  with-links,
   ordering-made,
   pairs-some,
   plan-of-strong,
@@ -57,7 +56,7 @@ use Rattle.theory.proofs.PlanStrong.{
   upright-false,
 }
 use Rattle.theory.proofs.OrderingLinks.{Joins, Clear, Enough, enough-one, links-count, links-join}
-use Rattle.theory.proofs.Fewest.{added, need-fewest, strong-needs-none, weak-need}
+use Rattle.theory.proofs.Fewest.{need-fewest, strong-needs-none, weak-need}
 
 module _ {N : Network} (P : Proper N) where
   -- the stations of the network's ordering are names, with no sink and no component alone twice
@@ -184,6 +183,3 @@ pub plan-fewest-links : {N : Network} → Proper N → (ls : List Link) → Stro
     → length (plan N) ≤ length ls
 plan-fewest-links P ls S =
     rw (← length-map ls link-arc) (plan-fewest P (map link-arc ls) S)
-  where
-    link-arc : Link → Arc
-    link-arc l = l .start ⟶ l .end

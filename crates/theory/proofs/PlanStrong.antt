@@ -1,5 +1,4 @@
 -- With the plan's links added every zone reaches every zone.
---   with-links N ls      the network N with the arcs of the links ls added
 --   pairing-properties   document 000's properties (1) to (3) hold of the ordering of a network
 --   plan-properties      they hold of the ordering on which the plan rests
 --   pairs-some           there is a pair where there is a source;   plan-pairs-some   so p ≥ 1 where s ≥ 1
@@ -10,21 +9,10 @@
 -- all on the round trip of `augmentation`. Where the rule runs on the turned network, the relation is the converse.
 -- Assumes nothing.
 use Prim.Native.Nat.{ℕ, _≤_}
-use mathlib.Core.Path.{_≡_, refl, sym, _∙_, ap, ap₂}
+use mathlib.Core.Path.{_≡_, refl, ap, ap₂}
 use mathlib.Core.Bool.{Bool, true, false}
 use mathlib.Core.Logic.{inl, inr}
-use mathlib.Core.List.{
-  List,
-  [],
-  _∷_,
-  _++_,
-  map,
-  List·Memᴰ as In,
-  List·Memᴰ·head,
-  List·Memᴰ·tail,
-  Memᴰ·append-left,
-  Memᴰ·append-right,
-}
+use mathlib.Core.List.{List, [], _∷_, map, List·Memᴰ as In, List·Memᴰ·head, List·Memᴰ·tail, Memᴰ·append-left, Memᴰ·append-right}
 use native.Mathlib.Omega.{arith}
 use borrow.Author.Tests.{leb-true, leb-false}
 use lib.ListN.{length, drop}
@@ -39,25 +27,17 @@ use Rattle.rules.specs.Plan.{
   upright,
   ordering,
   upright-plan,
+  with-links,
   plan,
   plan-pairs,
 }
-use Rattle.theory.proofs.Bools.{bool-cases, true-not-false}
+use Rattle.theory.proofs.Bools.{bool-cases}
 use Rattle.theory.proofs.Lists.{in-map}
 use Rattle.theory.proofs.Reach.{reach-arc, reach-refl, reach-trans, reaches-sound, reaches-complete}
 use Rattle.theory.proofs.Reach.{strong-sound}
-use Rattle.theory.proofs.Components.{names-zone}
 use Rattle.theory.proofs.Turned.{turned-proper, turned-reach, turned-sources, turned-sinks}
-use Rattle.theory.proofs.KindLaws.{
-  left-closed,
-  entered-closed,
-  kinds-agree,
-  source-is,
-  sink-is,
-  alone-is,
-  end-kind,
-  start-kind,
-}
+use Rattle.theory.proofs.KindCounts.{source-to-sink, sink-from-source}
+use Rattle.theory.proofs.KindLaws.{end-kind, start-kind}
 use Rattle.theory.proofs.Down.{down, up}
 use Rattle.theory.proofs.Shuffled.{shuffled-in, in-shuffled}
 use Rattle.theory.proofs.Augment.{
@@ -83,10 +63,6 @@ use Rattle.theory.proofs.Pairing.{
   made-some,
 }
 
--- the network with the arcs of links added
-abbrev pub with-links : Network → List Link → Network
-with-links N ls = record { zones = N .zones; arcs = N .arcs ++ map (λ (l : Link). l .start ⟶ l .end) ls }
-
 -- links added take no reach away
 pub links-keep : {N : Network} {a b : ℕ} (ls : List Link) → Reach N a b → Reach (with-links N ls) a b
 links-keep ls (same e) = same e
@@ -107,29 +83,13 @@ in-some (List·Memᴰ·head e) = omega arith
 in-some (List·Memᴰ·tail m) = omega arith
 
 module _ {N : Network} (P : Proper N) where
-  -- every source reaches some sink
+  -- every source reaches some sink, by the test
   pub source-down : (v : ℕ) → In v (sources N) → (w : ℕ) × In w (sinks N) × (reaches N v w ≡ true)
-  source-down v m =
-      let k = source-is N m in
-      let d = down P (names-zone N (k .0) .0) in
-      elim (end-kind N (d .1) (d .2)) [
-        | inl i ↦ (d .0, i, reaches-complete P (d .3))
-        | inr i ↦
-            let one = entered-closed P (alone-is N i .1) (d .3) in
-            absurd (true-not-false (k .1) (sym (kinds-agree P one .0) ∙ d .2))
-      ]
+  source-down v m = let d = source-to-sink P m in (d .0, d .1, reaches-complete P (d .2))
 
-  -- every sink is reached from some source
+  -- every sink is reached from some source, by the test
   pub sink-up : (w : ℕ) → In w (sinks N) → (v : ℕ) × In v (sources N) × (reaches N v w ≡ true)
-  sink-up w m =
-      let k = sink-is N m in
-      let u = up P (names-zone N (k .0) .0) in
-      elim (start-kind N (u .1) (u .2)) [
-        | inl i ↦ (u .0, i, reaches-complete P (u .3))
-        | inr i ↦
-            let one = left-closed P (alone-is N i .2) (u .3) in
-            absurd (true-not-false (k .1) (sym (kinds-agree P one .1) ∙ u .2))
-      ]
+  sink-up w m = let u = sink-from-source P m in (u .0, u .1, reaches-complete P (u .2))
 
   -- the ordering of a network is made by the rule's points 1 and 2
   pub ordering-made : Made (reaches N) (sources N) (sinks N) (ordering N)
