@@ -1,4 +1,7 @@
--- What the contracts over arranged rows say of lent work memory.
+-- What the contracts over arranged rows say of lent work memory: rows, marks, places, arranging.
 pub mod Rows
 pub mod Marks
 pub mod Work
+pub mod Regions
+pub mod Arranged
+pub mod Storing

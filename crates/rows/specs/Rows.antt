@@ -1,5 +1,6 @@
 -- The arranged rows of a network in lent work memory: the heads, tail by tail, and where each row starts and stops.
---   Rows, Sound      rows of heads, as plain functions of zones and places; every row has an end, and its heads are zones
+--   Rows             rows of heads, as plain functions of zones and places
+--   Sound G          every row has an end, and its heads are zones
 --   rows-of w ..     the rows that stand in w from `starts` on
 --   Entry G a b      b stands in the row of a
 --   Run E a b        a run of entries leads from a to b

@@ -1,0 +1,67 @@
+-- What a run of stores, `sets w at vs`, leaves: vs from `at` on, and everything else as it was.
+--   sets-append    storing a list and then another behind it is storing the two joined
+--   sets-set       a store below the run may come before it or after it
+--   take-sets, drop-sets, getD-sets-low   what lies before and behind the run is kept
+--   drop-sets-at, getD-sets-at            what stands where the run stored
+-- Each is by induction on the stored list, from the law of one store. Assumes nothing.
+use mathlib.Core.Path.{_≡_, refl, sym, ap, _∙_}
+use mathlib.Core.Logic.{_≢_}
+use mathlib.Core.List.{List, [], _∷_, _++_, append-assoc}
+use Prim.Native.Nat.{ℕ, suc, _+_, _≤_, _<_}
+use native.Mathlib.Omega.{arith}
+use lib.ListN.{length, getD, take, drop, set, List·getD-append}
+use lib.Seq.{sets, sets-eq, set-comm, take-set-le, drop-set-lt, getD-set-other, length-take-le, drop-at, getD-drop}
+
+-- storing a list and then another behind it is storing the two joined
+pub sets-append : (w : List ℕ) (at : ℕ) (vs us : List ℕ)
+    → sets w at (vs ++ us) ≡ sets (sets w at vs) (at + length vs) us
+sets-append w at [] us = ap (λ (n : ℕ). sets w n us) (omega arith)
+sets-append w at (v ∷ vs) us =
+    sets-append (set w at v) (suc at) vs us
+    ∙ ap (λ (n : ℕ). sets (sets (set w at v) (suc at) vs) n us) (omega arith)
+
+-- storing a list and then one element behind it
+pub sets-more : (w : List ℕ) (at : ℕ) (vs : List ℕ) (x n : ℕ) → n ≡ at + length vs
+    → set (sets w at vs) n x ≡ sets w at (vs ++ (x ∷ []))
+sets-more w at vs x n e = rw e (sym (sets-append w at vs (x ∷ [])))
+
+-- a store below the run may come before it or after it
+pub sets-set : (w : List ℕ) (at : ℕ) (vs : List ℕ) (i x : ℕ) → i < at → set (sets w at vs) i x ≡ sets (set w i x) at vs
+sets-set w at [] i x h = refl
+sets-set w at (v ∷ vs) i x h =
+    let apart : at ≢ i = λ e. omega arith in
+    sets-set (set w at v) (suc at) vs i x (omega arith)
+    ∙ ap (λ (u : List ℕ). sets u (suc at) vs) (set-comm w at i v x apart)
+
+-- what lies before the run is kept
+pub take-sets : (w : List ℕ) (at : ℕ) (vs : List ℕ) (n : ℕ) → n ≤ at → take n (sets w at vs) ≡ take n w
+take-sets w at [] n h = refl
+take-sets w at (v ∷ vs) n h = take-sets (set w at v) (suc at) vs n (omega arith) ∙ take-set-le n w at v h
+
+-- what lies behind the run is kept
+pub drop-sets : (w : List ℕ) (at : ℕ) (vs : List ℕ) (n : ℕ) → at + length vs ≤ n → drop n (sets w at vs) ≡ drop n w
+drop-sets w at [] n h = refl
+drop-sets w at (v ∷ vs) n h =
+    drop-sets (set w at v) (suc at) vs n (omega arith) ∙ drop-set-lt n w at v (omega arith)
+
+-- an element before the run is kept
+pub getD-sets-low : (w : List ℕ) (at : ℕ) (vs : List ℕ) (i : ℕ) → i < at → getD (sets w at vs) i 0 ≡ getD w i 0
+getD-sets-low w at [] i h = refl
+getD-sets-low w at (v ∷ vs) i h =
+    let apart : i ≢ at = λ e. omega arith in
+    getD-sets-low (set w at v) (suc at) vs i (omega arith) ∙ getD-set-other w at i v 0 apart
+
+-- from where the run began the memory holds what was stored, and then what was there
+pub drop-sets-at : (w : List ℕ) (at : ℕ) (vs : List ℕ) → at + length vs ≤ length w
+    → drop at (sets w at vs) ≡ vs ++ drop (at + length vs) w
+drop-sets-at w at vs h =
+    ap (λ (u : List ℕ). drop at u) (sets-eq vs w at h ∙ append-assoc (take at w) vs (drop (at + length vs) w))
+    ∙ drop-at (take at w) (vs ++ drop (at + length vs) w) at (length-take-le at w (omega arith))
+
+-- an element of what was stored
+pub getD-sets-at : (w : List ℕ) (at : ℕ) (vs : List ℕ) (i : ℕ) → at + length vs ≤ length w → i < length vs
+    → getD (sets w at vs) (at + i) 0 ≡ getD vs i 0
+getD-sets-at w at vs i h l =
+    sym (getD-drop at (sets w at vs) i 0)
+    ∙ ap (λ (u : List ℕ). getD u i 0) (drop-sets-at w at vs h)
+    ∙ List·getD-append vs (drop (at + length vs) w) 0 i l

@@ -1,0 +1,15 @@
+-- Lists that stand in lent work memory.
+--   part w at n     the n elements of w from `at` on
+--   Holds w at xs   the list xs stands in w from `at` on
+use mathlib.Core.Path.{_≡_}
+use mathlib.Core.List.{List}
+use Prim.Native.Nat.{ℕ}
+use lib.ListN.{length, take, drop}
+
+-- the n elements of w from `at` on
+abbrev pub part : List ℕ → ℕ → ℕ → List ℕ
+part w at n = take n (drop at w)
+
+-- the list xs stands in w from `at` on
+abbrev pub Holds : List ℕ → ℕ → List ℕ → Type 0
+Holds w at xs = part w at (length xs) ≡ xs
