@@ -1,10 +1,12 @@
 -- The network file (document 01, "The network file" and "When a call says no").
 --   Given              a network as a file holds it: the zone count and the arcs
+--   Acceptable g       a network that a call accepts
 --   file-bytes g       the file that it is written as
 --   file-at s a b      reading the bytes s from left to right to the first trouble, with room for a tails and b heads
 -- A file is: zone count, arc count, then tail and head of each arc. Nothing follows.
-use Prim.Native.Nat.{ℕ, zero, suc}
-use mathlib.Core.List.{List, [], _∷_, _++_}
+use Prim.Native.Nat.{ℕ, zero, suc, _≤_, _<_}
+use mathlib.Core.Path.{_≡_}
+use mathlib.Core.List.{List, [], _∷_, _++_, List·Memᴰ as In}
 use mathlib.Core.Bool.{Bool, _||_}
 use lib.ListN.{length}
 use lib.Dec.{ltb, leb, eqb}
@@ -15,6 +17,15 @@ use Rattle.rules.specs.Number.{number-bytes, Reading, got, then, refusal
 pub record Given : Type 0 where
   pub zones : ℕ
   pub arcs : List Arc
+
+-- a network that a call accepts: 1 to 1,024 zones, at most 4,096 arcs, and every arc between two different zones
+pub record Acceptable (g : Given) : Type 0 where
+  pub zones-least : 1 ≤ g .zones
+  pub zones-most : g .zones ≤ 1024
+  pub arcs-most : length (g .arcs) ≤ 4096
+  pub tails : {a b : ℕ} → In (a ⟶ b) (g .arcs) → a < g .zones
+  pub heads : {a b : ℕ} → In (a ⟶ b) (g .arcs) → b < g .zones
+  pub apart : {a b : ℕ} → In (a ⟶ b) (g .arcs) → a ≡ b → ⊥
 
 -- tail and head of an arc
 unfoldable pub arc-bytes : Arc → List ℕ

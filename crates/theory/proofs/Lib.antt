@@ -24,3 +24,9 @@ pub mod Alike
 pub mod SkeletonSame
 pub mod PlanSame
 pub mod SkeletonLeast
+pub mod Readings
+pub mod NumberLaws
+pub mod FileLaws
+pub mod FileCut
+pub mod AnswerLaws
+pub mod SkeletonFile
