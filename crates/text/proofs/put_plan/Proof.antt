@@ -1,0 +1,88 @@
+-- `text::put_plan` meets its contract: the head, the lines of the links and done, each where the one before stops.
+-- Assumes nothing.
+use Prim.Native.Nat.{ℕ}
+use mathlib.Core.List.{List, _++_}
+use native.Mathlib.Omega.{arith}
+use Rattle.rules.specs.Text.{word}
+use Rattle.text.specs.Put.{Room}
+use Rattle.text.specs.Lines.{lines-of, head-text, plan-text}
+use Rattle.text.proofs.Links.{lines-length}
+use Rattle.text.proofs.Texts.{plan-length}
+use Rattle.text.proofs.Puts.{room-first, room-rest, written-then}
+use borrow.Author.Needs.{needs}
+use Rattle.text.proofs.put_plan.Statement.{statement}
+use Rattle.text.proofs.put_plan.Tie as tie
+
+-- the lines of the links handed in
+abbrev links : tie.Start → List ℕ
+links c = lines-of (c .args .from .now) (c .args .to .now) (c .args .why .now) (c .args .count)
+
+-- the lines above them
+abbrev head : tie.Start → List ℕ
+head c =
+    let a = c .args in
+    head-text (a .zones) (a .arcs) (a .sources) (a .sinks) (a .alone) (a .pairs) (a .need)
+
+-- the buffer has room for all lines
+whole : (c : tie.After-shared-slice-known3) →
+    let s = c .before .before .before .before in
+    Room (s .args .out .now) (s .args .at) (head s ++ (links s ++ word "done\n"))
+unfolding plan-text
+whole c =
+    let s = c .before .before .before .before in
+    let a = s .args in
+    let f = s .fits in
+    let lines =
+    lines-length (a .from .now) (a .to .now) (a .why .now) (a .count)
+    (λ i. c .before .before .shared-slice-known .given i .fits)
+    (λ i. c .before .shared-slice-known2 .given i .fits) in
+    let all =
+    plan-length (a .zones) (a .arcs) (a .sources) (a .sinks) (a .alone) (a .pairs) (a .need) (links s)
+    (f .zones .fits) (f .arcs .fits) (f .sources .fits) (f .sinks .fits) (f .alone .fits)
+    (f .pairs .fits) (f .need .fits) in
+    record { fits = omega (arith, lines, all, s .pre .1) }
+
+put-head-requires : tie.Need-put-head-requires
+put-head-requires c κs =
+    let s = c .before .before .before .before .before in
+    room-first (links s ++ word "done\n") (whole (c .before))
+
+put-links-requires : tie.Need-put-links-requires
+put-links-requires c κs =
+    let h = c .before .before .before in
+    let s = h .before .before .before .before .before .before in
+    (s .pre .0, room-first (word "done\n") (room-rest (whole (h .before .before)) (h .put-head .ensures)))
+
+slice-aggregate-put-bytes : tie.Need-slice-aggregate-put-bytes
+slice-aggregate-put-bytes c = search needs
+
+put-bytes-requires : tie.Need-put-bytes-requires
+unfolding word
+put-bytes-requires c κs =
+    let l = c .before .before .before .before in
+    let h = l .before .before .before .before in
+    room-rest (room-rest (whole (h .before .before)) (h .put-head .ensures)) (l .put-links .ensures)
+
+same-length : tie.Need-same-length
+same-length c = search needs
+
+returns : tie.Need-returns
+unfolding plan-text word
+returns c =
+    let l = c .before .before .before .before .before .before .before in
+    let h = l .before .before .before .before in
+    let room = whole (h .before .before) in
+    written-then room (h .put-head .ensures)
+    (written-then (room-rest room (h .put-head .ensures)) (l .put-links .ensures)
+    (c .before .before .put-bytes .ensures))
+
+pub put-plan-spec : {M : Type 1} → statement M
+put-plan-spec =
+    tie.close
+    (tie.spec
+    put-head-requires
+    put-links-requires
+    slice-aggregate-put-bytes
+    put-bytes-requires
+    same-length
+    returns)

@@ -1,0 +1,3 @@
+-- What the contracts of linkplan's text say: bytes put into a lent buffer, and the lines over lists of numbers.
+pub mod Put
+pub mod Lines
