@@ -1,0 +1,132 @@
+//! One network with all the lists that its calls are lent, and the six calls on
+//! it by the archive and by the model.
+
+use crate::calls::ARCHIVE;
+use crate::chance::Chance;
+use crate::model::{self, work_asked, Answer};
+use crate::net::Net;
+
+pub const CALLS: [&str; 6] = ["read", "write", "strong", "reach", "skeleton", "plan"];
+
+/// Questions asked one after the other where reach is timed; the time is that
+/// of one.
+pub const QUESTIONS: usize = 16;
+
+pub struct Timed {
+    net: Net,
+    file: Vec<u8>,
+    questions: Vec<(usize, usize)>,
+    /// Output lists, of the lengths that the calls ask for.
+    out_file: Vec<u8>,
+    tails: Vec<u16>,
+    heads: Vec<u16>,
+    from: Vec<u16>,
+    to: Vec<u16>,
+    why: Vec<u16>,
+    work: Vec<u16>,
+}
+
+impl Timed {
+    pub fn new(net: &Net, chance: &mut Chance) -> Timed {
+        let (zones, arcs) = (net.zones, net.tails.len());
+        let file = model::file::bytes(zones, &net.tails, &net.heads);
+        Timed {
+            net: net.clone(),
+            questions: (0..QUESTIONS).map(|_| (chance.below(zones), chance.below(zones))).collect(),
+            out_file: vec![0; file.len()],
+            file,
+            tails: vec![0; arcs],
+            heads: vec![0; arcs],
+            from: vec![0; zones],
+            to: vec![0; zones],
+            why: vec![0; zones],
+            work: vec![0; work_asked(zones, arcs)],
+        }
+    }
+
+    /// Fills all that is written to with a value that no result has, so that
+    /// nothing is found cleared. Not timed.
+    pub fn soil(&mut self) {
+        self.out_file.fill(0xee);
+        let lists = [&mut self.tails, &mut self.heads, &mut self.from, &mut self.to, &mut self.why, &mut self.work];
+        for list in lists {
+            list.fill(0xeeee);
+        }
+    }
+
+    /// The archive's answer. That of reach is the last question's, with all
+    /// questions' yes and no as the bits of its last number.
+    pub fn ours(&mut self, call: usize) -> Answer {
+        let (zones, arcs) = (self.net.zones, self.net.tails.len());
+        let (t, h) = (self.net.tails.as_ptr(), self.net.heads.as_ptr());
+        let (work, work_len) = (self.work.as_mut_ptr(), self.work.len());
+        let (tails, heads) = (self.tails.as_mut_ptr(), self.heads.as_mut_ptr());
+        let (from, to, why) = (self.from.as_mut_ptr(), self.to.as_mut_ptr(), self.why.as_mut_ptr());
+        let (file, out_file) = (self.file.as_ptr(), self.out_file.as_mut_ptr());
+        let mut answer = [0; 8];
+        let a = answer.as_mut_ptr();
+        // Every list is as long as it is said to be, and no two overlap.
+        unsafe {
+            match CALLS[call] {
+                "read" => (ARCHIVE.read)(file, self.file.len(), tails, arcs, heads, arcs, a),
+                "write" => (ARCHIVE.write)(zones, t, arcs, h, arcs, out_file, self.out_file.len(), a),
+                "strong" => (ARCHIVE.strong)(zones, t, arcs, h, arcs, work, work_len, a),
+                "reach" => {
+                    let mut all = 0;
+                    for &(first, second) in &self.questions {
+                        (ARCHIVE.reach)(zones, t, arcs, h, arcs, first, second, work, work_len, a);
+                        all = all * 2 + *a.add(2);
+                    }
+                    *a.add(7) = all;
+                }
+                "skeleton" => (ARCHIVE.skeleton)(zones, t, arcs, h, arcs, tails, arcs, heads, arcs, work, work_len, a),
+                _ => (ARCHIVE.plan)(zones, t, arcs, h, arcs, from, zones, to, zones, why, zones, work, work_len, a),
+            }
+        }
+        answer
+    }
+
+    /// The model's answer, in the same way.
+    pub fn model(&mut self, call: usize) -> Answer {
+        let Net { zones, tails, heads } = &self.net;
+        match CALLS[call] {
+            "read" => model::read(&self.file, &mut self.tails, &mut self.heads),
+            "write" => model::write(*zones, tails, heads, &mut self.out_file),
+            "strong" => model::strong(*zones, tails, heads, &mut self.work),
+            "reach" => {
+                let (mut answer, mut all) = ([0; 8], 0);
+                for &(first, second) in &self.questions {
+                    answer = model::reach(*zones, tails, heads, first, second, &mut self.work);
+                    all = all * 2 + answer[2];
+                }
+                answer[7] = all;
+                answer
+            }
+            "skeleton" => {
+                model::skeleton(*zones, tails, heads, &mut self.tails, &mut self.heads, &mut self.work)
+            }
+            _ => model::plan(*zones, tails, heads, &mut self.from, &mut self.to, &mut self.why, &mut self.work),
+        }
+    }
+
+    /// All that a call may have written.
+    fn written(&self) -> (Vec<u8>, Vec<u16>) {
+        let lists = [&self.tails, &self.heads, &self.from, &self.to, &self.why, &self.work];
+        (self.out_file.clone(), lists.into_iter().flatten().copied().collect())
+    }
+
+    /// Whether both give the same: times of wrong results are worth nothing.
+    pub fn agree(&mut self, call: usize) -> Result<(), String> {
+        self.soil();
+        let ours = (self.ours(call), self.written());
+        self.soil();
+        let model = (self.model(call), self.written());
+        if ours.0[0] != 0 {
+            return Err(format!("refused: {:?}", ours.0));
+        }
+        if ours != model {
+            return Err("the archive and the model differ".to_string());
+        }
+        Ok(())
+    }
+}

@@ -1,0 +1,81 @@
+/*
+ * plan.c - reads a network file from standard input and prints its plan, as
+ * linkplan does; what the other calls say goes to standard error.
+ *
+ * Build, from this directory, once `rt staticlib clib` has been run:
+ *
+ *   cc -O2 -o plan plan.c ../../target/staticlib/libclib.a
+ *
+ * Try:
+ *
+ *   printf '\6\5\0\2\2\3\0\4\1\4\4\5' | ./plan
+ */
+#include <stdio.h>
+#include <string.h>
+
+#include "../../include/linkplan.h"
+
+/* One byte more than the longest good file: enough to decide any input. */
+static uint8_t file[LINKPLAN_FILE_MAX + 1];
+static uint8_t copy[LINKPLAN_FILE_MAX];
+static uint16_t tails[LINKPLAN_ARCS_MAX], heads[LINKPLAN_ARCS_MAX];
+static uint16_t out_tails[LINKPLAN_ARCS_MAX], out_heads[LINKPLAN_ARCS_MAX];
+static uint16_t from[LINKPLAN_ZONES_MAX], to[LINKPLAN_ZONES_MAX], why[LINKPLAN_ZONES_MAX];
+static uint16_t work[LINKPLAN_WORK_MAX];
+static uint64_t answer[8];
+
+/* Prints a refusal, if there is one, and says whether there was. */
+static int refused(void)
+{
+    if (answer[0] == LINKPLAN_DONE)
+        return 0;
+    printf("refused %lu at %lu\n", (unsigned long)answer[0], (unsigned long)answer[1]);
+    return 1;
+}
+
+int main(void)
+{
+    static const char *const words[] = { "ring", "chain", "back" };
+    size_t length, zones, arcs, need, i;
+
+    length = fread(file, 1, sizeof file, stdin);
+    linkplan_read(file, length, tails, LINKPLAN_ARCS_MAX, heads, LINKPLAN_ARCS_MAX, answer);
+    if (refused())
+        return 0;
+    zones = (size_t)answer[2];
+    arcs = (size_t)answer[3];
+
+    /* A network that was read is a good one, and the lists are as long as any
+     * call can ask for, so none of these is refused; a caller with lists of
+     * other lengths looks at answer[0] each time, as above. */
+    linkplan_write(zones, tails, arcs, heads, arcs, copy, sizeof copy, answer);
+    fprintf(stderr, "written again: %s\n",
+            answer[2] == length && memcmp(file, copy, length) == 0 ? "the same" : "not the same");
+
+    linkplan_strong(zones, tails, arcs, heads, arcs, work, LINKPLAN_WORK_MAX, answer);
+    fprintf(stderr, "strong: %s\n", answer[2] ? "yes" : "no");
+
+    linkplan_reach(zones, tails, arcs, heads, arcs, 0, zones - 1, work, LINKPLAN_WORK_MAX, answer);
+    fprintf(stderr, "the first zone reaches the last: %s\n", answer[2] ? "yes" : "no");
+
+    linkplan_skeleton(zones, tails, arcs, heads, arcs, out_tails, LINKPLAN_ARCS_MAX,
+                      out_heads, LINKPLAN_ARCS_MAX, work, LINKPLAN_WORK_MAX, answer);
+    fprintf(stderr, "skeleton:");
+    for (i = 0; i < answer[2]; i++)
+        fprintf(stderr, " %u-%u", (unsigned)out_tails[i], (unsigned)out_heads[i]);
+    fprintf(stderr, "\n");
+
+    linkplan_plan(zones, tails, arcs, heads, arcs, from, LINKPLAN_ZONES_MAX, to, LINKPLAN_ZONES_MAX,
+                  why, LINKPLAN_ZONES_MAX, work, LINKPLAN_WORK_MAX, answer);
+    if (refused())
+        return 0;
+    need = (size_t)answer[6];
+    printf("zones %lu arcs %lu\n", (unsigned long)zones, (unsigned long)arcs);
+    printf("sources %lu sinks %lu alone %lu pairs %lu\n", (unsigned long)answer[2],
+           (unsigned long)answer[3], (unsigned long)answer[4], (unsigned long)answer[5]);
+    printf("need %lu\n", (unsigned long)need);
+    for (i = 0; i < need; i++)
+        printf("%u %u %s\n", (unsigned)from[i], (unsigned)to[i], words[why[i]]);
+    printf("done\n");
+    return 0;
+}

@@ -1,0 +1,186 @@
+//! Reads a network file from standard input and prints its plan, as linkplan
+//! does; what the other calls say goes to standard error.
+//!
+//! Build, from this directory, once `rt staticlib clib` has been run:
+//!
+//!   rustc --edition 2021 -O -o plan main.rs -L native=../../target/staticlib
+//!
+//! Try:
+//!
+//!   printf '\6\5\0\2\2\3\0\4\1\4\4\5' | ./plan
+
+use std::io::Read;
+
+#[link(name = "clib", kind = "static")]
+extern "C" {
+    fn linkplan_read(
+        file: *const u8, file_len: usize,
+        tails: *mut u16, tails_len: usize, heads: *mut u16, heads_len: usize,
+        answer: *mut u64,
+    );
+    fn linkplan_write(
+        zones: usize, tails: *const u16, tails_len: usize, heads: *const u16, heads_len: usize,
+        file: *mut u8, file_len: usize,
+        answer: *mut u64,
+    );
+    fn linkplan_strong(
+        zones: usize, tails: *const u16, tails_len: usize, heads: *const u16, heads_len: usize,
+        work: *mut u16, work_len: usize,
+        answer: *mut u64,
+    );
+    fn linkplan_reach(
+        zones: usize, tails: *const u16, tails_len: usize, heads: *const u16, heads_len: usize,
+        from: usize, to: usize, work: *mut u16, work_len: usize,
+        answer: *mut u64,
+    );
+    fn linkplan_skeleton(
+        zones: usize, tails: *const u16, tails_len: usize, heads: *const u16, heads_len: usize,
+        out_tails: *mut u16, out_tails_len: usize, out_heads: *mut u16, out_heads_len: usize,
+        work: *mut u16, work_len: usize,
+        answer: *mut u64,
+    );
+    fn linkplan_plan(
+        zones: usize, tails: *const u16, tails_len: usize, heads: *const u16, heads_len: usize,
+        from: *mut u16, from_len: usize, to: *mut u16, to_len: usize, why: *mut u16, why_len: usize,
+        work: *mut u16, work_len: usize,
+        answer: *mut u64,
+    );
+}
+
+/// A refusal: its number and its place.
+type Refusal = (u64, u64);
+
+/// The calls' values, or the refusal.
+fn outcome(answer: [u64; 8]) -> Result<[usize; 5], Refusal> {
+    match answer {
+        [0, _, a, b, c, d, e, _] => Ok([a, b, c, d, e].map(|value| value as usize)),
+        [kind, place, ..] => Err((kind, place)),
+    }
+}
+
+/// A network, with memory for the calls to work in. The slices give pointers
+/// that are never null, and the borrow rules keep lent lists from overlapping:
+/// all that the calls leave to the caller.
+struct Network {
+    zones: usize,
+    tails: Vec<u16>,
+    heads: Vec<u16>,
+    work: Vec<u16>,
+}
+
+impl Network {
+    fn read(file: &[u8]) -> Result<Network, Refusal> {
+        let (mut tails, mut heads, mut answer) = (vec![0; 4096], vec![0; 4096], [0; 8]);
+        unsafe {
+            linkplan_read(
+                file.as_ptr(), file.len(),
+                tails.as_mut_ptr(), tails.len(), heads.as_mut_ptr(), heads.len(),
+                answer.as_mut_ptr(),
+            );
+        }
+        let [zones, arcs, ..] = outcome(answer)?;
+        tails.truncate(arcs);
+        heads.truncate(arcs);
+        Ok(Network { zones, tails, heads, work: vec![0; 16 * zones + 3 * arcs] })
+    }
+
+    fn write(&self) -> Result<Vec<u8>, Refusal> {
+        let (mut file, mut answer) = (vec![0; 16_388], [0; 8]);
+        let (tails, heads) = (&self.tails, &self.heads);
+        unsafe {
+            linkplan_write(
+                self.zones, tails.as_ptr(), tails.len(), heads.as_ptr(), heads.len(),
+                file.as_mut_ptr(), file.len(),
+                answer.as_mut_ptr(),
+            );
+        }
+        let [length, ..] = outcome(answer)?;
+        file.truncate(length);
+        Ok(file)
+    }
+
+    fn strong(&mut self) -> Result<bool, Refusal> {
+        let (tails, heads, work, mut answer) = (&self.tails, &self.heads, &mut self.work, [0; 8]);
+        unsafe {
+            linkplan_strong(
+                self.zones, tails.as_ptr(), tails.len(), heads.as_ptr(), heads.len(),
+                work.as_mut_ptr(), work.len(),
+                answer.as_mut_ptr(),
+            );
+        }
+        Ok(outcome(answer)?[0] == 1)
+    }
+
+    fn reach(&mut self, from: usize, to: usize) -> Result<bool, Refusal> {
+        let (tails, heads, work, mut answer) = (&self.tails, &self.heads, &mut self.work, [0; 8]);
+        unsafe {
+            linkplan_reach(
+                self.zones, tails.as_ptr(), tails.len(), heads.as_ptr(), heads.len(),
+                from, to, work.as_mut_ptr(), work.len(),
+                answer.as_mut_ptr(),
+            );
+        }
+        Ok(outcome(answer)?[0] == 1)
+    }
+
+    fn skeleton(&mut self) -> Result<Vec<(u16, u16)>, Refusal> {
+        let (tails, heads, work, mut answer) = (&self.tails, &self.heads, &mut self.work, [0; 8]);
+        let (mut out_tails, mut out_heads) = (vec![0; tails.len()], vec![0; tails.len()]);
+        unsafe {
+            linkplan_skeleton(
+                self.zones, tails.as_ptr(), tails.len(), heads.as_ptr(), heads.len(),
+                out_tails.as_mut_ptr(), out_tails.len(), out_heads.as_mut_ptr(), out_heads.len(),
+                work.as_mut_ptr(), work.len(),
+                answer.as_mut_ptr(),
+            );
+        }
+        let [arcs, ..] = outcome(answer)?;
+        Ok(out_tails.into_iter().zip(out_heads).take(arcs).collect())
+    }
+
+    /// The plan's counts, and from, to and why of each link.
+    #[allow(clippy::type_complexity)]
+    fn plan(&mut self) -> Result<([usize; 5], Vec<(u16, u16, u16)>), Refusal> {
+        let (tails, heads, work, mut answer) = (&self.tails, &self.heads, &mut self.work, [0; 8]);
+        let (mut from, mut to, mut why) = (vec![0; self.zones], vec![0; self.zones], vec![0; self.zones]);
+        unsafe {
+            linkplan_plan(
+                self.zones, tails.as_ptr(), tails.len(), heads.as_ptr(), heads.len(),
+                from.as_mut_ptr(), from.len(), to.as_mut_ptr(), to.len(), why.as_mut_ptr(), why.len(),
+                work.as_mut_ptr(), work.len(),
+                answer.as_mut_ptr(),
+            );
+        }
+        let counts = outcome(answer)?;
+        Ok((counts, (0..counts[4]).map(|i| (from[i], to[i], why[i])).collect()))
+    }
+}
+
+fn run(file: &[u8]) -> Result<(), Refusal> {
+    let mut network = Network::read(file)?;
+    eprintln!("written again: {}", if network.write()? == file { "the same" } else { "not the same" });
+    eprintln!("strong: {}", if network.strong()? { "yes" } else { "no" });
+    let last = network.zones - 1;
+    eprintln!("the first zone reaches the last: {}", if network.reach(0, last)? { "yes" } else { "no" });
+    let skeleton: String = network.skeleton()?.iter().map(|(tail, head)| format!(" {tail}-{head}")).collect();
+    eprintln!("skeleton:{skeleton}");
+
+    let ([sources, sinks, alone, pairs, need], links) = network.plan()?;
+    println!("zones {} arcs {}", network.zones, network.tails.len());
+    println!("sources {sources} sinks {sinks} alone {alone} pairs {pairs}");
+    println!("need {need}");
+    for (from, to, why) in links {
+        println!("{from} {to} {}", ["ring", "chain", "back"][usize::from(why)]);
+    }
+    println!("done");
+    Ok(())
+}
+
+fn main() {
+    // One byte more than the longest good file is enough to decide any input.
+    let mut file = Vec::new();
+    std::io::stdin().take(16_389).read_to_end(&mut file).expect("standard input can be read");
+    if let Err((kind, place)) = run(&file) {
+        println!("refused {kind} at {place}");
+    }
+}

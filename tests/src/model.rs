@@ -1,0 +1,195 @@
+//! The six calls, written from the documents alone.
+//!
+//! This is what the archive is compared with, and what it is timed beside. It
+//! shares no code with it. Each call tests its input in the order of the table
+//! of refusals, works in memory of its own, and only then writes to what the
+//! caller lent, so that a refusal changes nothing.
+//!
+//! Every call gives the answer of the C interface: eight numbers, the refusal's
+//! number, its place, then the call's values, then zeros.
+
+// The paths are written out so that other crates can take this file in by path.
+#[path = "model/file.rs"]
+pub mod file;
+#[path = "model/graph.rs"]
+pub mod graph;
+#[path = "model/links.rs"]
+pub mod links;
+#[path = "model/reduce.rs"]
+pub mod reduce;
+
+pub const MOST_ZONES: usize = 1024;
+pub const MOST_ARCS: usize = 4096;
+
+pub type Answer = [u64; 8];
+
+/// The refusals, with the numbers of the table.
+#[derive(Clone, Copy, PartialEq, Eq, Debug)]
+pub enum Kind {
+    Short = 1,
+    Long = 2,
+    Loose = 3,
+    Zones = 4,
+    Arcs = 5,
+    Range = 6,
+    SelfArc = 7,
+    Extra = 8,
+    Room = 9,
+    Pair = 10,
+}
+
+#[derive(Clone, Copy, PartialEq, Eq, Debug)]
+pub struct Trouble {
+    pub kind: Kind,
+    pub place: usize,
+}
+
+pub fn trouble<T>(kind: Kind, place: usize) -> Result<T, Trouble> {
+    Err(Trouble { kind, place })
+}
+
+/// Puts a call's outcome in the eight numbers.
+fn answer(outcome: Result<[u64; 5], Trouble>) -> Answer {
+    match outcome {
+        Ok([a, b, c, d, e]) => [0, 0, a, b, c, d, e, 0],
+        Err(Trouble { kind, place }) => [kind as u64, place as u64, 0, 0, 0, 0, 0, 0],
+    }
+}
+
+/// How many elements of work memory the four calls that have it ask for.
+pub fn work_asked(zones: usize, arcs: usize) -> usize {
+    16 * zones + 3 * arcs
+}
+
+/// The tests that every call on a network makes, in order. The zones of a reach
+/// question come last; other calls give none.
+pub fn check(zones: usize, tails: &[u16], heads: &[u16], question: &[usize]) -> Result<(), Trouble> {
+    if tails.len() != heads.len() {
+        return trouble(Kind::Pair, 0);
+    }
+    if zones == 0 || zones > MOST_ZONES {
+        return trouble(Kind::Zones, 0);
+    }
+    if tails.len() > MOST_ARCS {
+        return trouble(Kind::Arcs, 0);
+    }
+    for (index, (&tail, &head)) in tails.iter().zip(heads).enumerate() {
+        if usize::from(tail) >= zones || usize::from(head) >= zones {
+            return trouble(Kind::Range, index);
+        }
+        if tail == head {
+            return trouble(Kind::SelfArc, index);
+        }
+    }
+    if question.iter().any(|&zone| zone >= zones) {
+        return trouble(Kind::Range, tails.len());
+    }
+    Ok(())
+}
+
+fn room(enough: bool) -> Result<(), Trouble> {
+    if enough {
+        Ok(())
+    } else {
+        trouble(Kind::Room, 0)
+    }
+}
+
+/// Reads a network file. Values: zones, arcs.
+pub fn read(bytes: &[u8], tails: &mut [u16], heads: &mut [u16]) -> Answer {
+    answer(file::parse(bytes, tails.len().min(heads.len())).map(|network| {
+        let arcs = network.tails.len();
+        tails[..arcs].copy_from_slice(&network.tails);
+        heads[..arcs].copy_from_slice(&network.heads);
+        [network.zones as u64, arcs as u64, 0, 0, 0]
+    }))
+}
+
+/// Writes a network file. Value: its length.
+pub fn write(zones: usize, tails: &[u16], heads: &[u16], out: &mut [u8]) -> Answer {
+    let mut call = || {
+        check(zones, tails, heads, &[])?;
+        let bytes = file::bytes(zones, tails, heads);
+        room(bytes.len() <= out.len())?;
+        out[..bytes.len()].copy_from_slice(&bytes);
+        Ok([bytes.len() as u64, 0, 0, 0, 0])
+    };
+    answer(call())
+}
+
+/// Says whether the network is strong. Value: 1 for yes, 0 for no.
+pub fn strong(zones: usize, tails: &[u16], heads: &[u16], work: &mut [u16]) -> Answer {
+    let mut call = || {
+        check(zones, tails, heads, &[])?;
+        let asked = work_asked(zones, tails.len());
+        room(work.len() >= asked)?;
+        let yes = graph::components(zones, &graph::rows(zones, tails, heads)).names.len() == 1;
+        work[..asked].fill(0);
+        Ok([yes as u64, 0, 0, 0, 0])
+    };
+    answer(call())
+}
+
+/// Says whether one zone reaches another. Value: 1 for yes, 0 for no.
+pub fn reach(zones: usize, tails: &[u16], heads: &[u16], from: usize, to: usize, work: &mut [u16]) -> Answer {
+    let mut call = || {
+        check(zones, tails, heads, &[from, to])?;
+        let asked = work_asked(zones, tails.len());
+        room(work.len() >= asked)?;
+        let yes = graph::reaches(zones, &graph::rows(zones, tails, heads), from, to);
+        work[..asked].fill(0);
+        Ok([yes as u64, 0, 0, 0, 0])
+    };
+    answer(call())
+}
+
+/// Makes the skeleton. Value: its arc count.
+pub fn skeleton(
+    zones: usize,
+    tails: &[u16],
+    heads: &[u16],
+    out_tails: &mut [u16],
+    out_heads: &mut [u16],
+    work: &mut [u16],
+) -> Answer {
+    let mut call = || {
+        check(zones, tails, heads, &[])?;
+        let asked = work_asked(zones, tails.len());
+        room(out_tails.len() >= tails.len() && out_heads.len() >= tails.len() && work.len() >= asked)?;
+        let arcs = reduce::skeleton(zones, tails, heads);
+        for (index, &(tail, head)) in arcs.iter().enumerate() {
+            out_tails[index] = tail;
+            out_heads[index] = head;
+        }
+        work[..asked].fill(0);
+        Ok([arcs.len() as u64, 0, 0, 0, 0])
+    };
+    answer(call())
+}
+
+/// Makes the plan. Values: s, t, q, p, the number of links.
+pub fn plan(
+    zones: usize,
+    tails: &[u16],
+    heads: &[u16],
+    from: &mut [u16],
+    to: &mut [u16],
+    why: &mut [u16],
+    work: &mut [u16],
+) -> Answer {
+    let mut call = || {
+        check(zones, tails, heads, &[])?;
+        let asked = work_asked(zones, tails.len());
+        let records = from.len().min(to.len()).min(why.len());
+        room(records >= zones && work.len() >= asked)?;
+        let plan = links::plan(zones, tails, heads);
+        for (index, link) in plan.links.iter().enumerate() {
+            from[index] = link.from;
+            to[index] = link.to;
+            why[index] = link.why;
+        }
+        work[..asked].fill(0);
+        Ok([plan.sources, plan.sinks, plan.alone, plan.pairs, plan.links.len()].map(|number| number as u64))
+    };
+    answer(call())
+}

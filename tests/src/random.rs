@@ -1,0 +1,218 @@
+//! Networks by chance, with repeated arcs, half of them damaged, and lent lists
+//! of the length asked for, longer, or too short by one or by more.
+
+use crate::chance::Chance;
+use crate::compare::Comparer;
+use crate::families;
+use crate::files;
+use crate::model::{self, work_asked};
+use crate::net::Net;
+use crate::properties;
+
+pub fn run(to: &mut Comparer, cases: u64) {
+    for _ in 0..cases {
+        if to.full() {
+            return;
+        }
+        case(to);
+    }
+}
+
+fn case(to: &mut Comparer) {
+    let good = network(&mut to.chance);
+    let mut net = good.clone();
+    if to.chance.one_in(2) {
+        damage(&mut net, &mut to.chance);
+    }
+    if net == good && good.zones <= 64 {
+        properties::hold(to, &good);
+    }
+    // Where the zone count is damaged, lengths go by the good one.
+    let zones = if net.zones <= model::MOST_ZONES { net.zones } else { good.zones };
+    let arcs = net.tails.len();
+    let work = work_asked(zones, arcs);
+
+    let file = model::file::bytes(good.zones, &good.tails, &good.heads);
+    let lengths = [length(file.len(), to), length(work, to), length(work, to), length(work, to)];
+    to.write(&net, lengths[0]);
+    to.strong(&net, lengths[1]);
+    let out = [length(arcs, to), length(arcs, to)];
+    to.skeleton(&net, out, lengths[2]);
+    let out = [length(zones, to), length(zones, to), length(zones, to)];
+    to.plan(&net, out, lengths[3]);
+    for _ in 0..2 {
+        let (from, second) = (asked(zones, &mut to.chance), asked(zones, &mut to.chance));
+        let work = length(work, to);
+        to.reach(&net, from, second, work);
+    }
+
+    let mut file = file;
+    if to.chance.one_in(2) {
+        files::damage(&mut file, &mut to.chance);
+    }
+    let out = [length(good.tails.len(), to), length(good.tails.len(), to)];
+    to.read(&file, out[0], out[1]);
+}
+
+/// A length to lend where `asked` is asked for.
+fn length(asked: usize, to: &mut Comparer) -> usize {
+    // Far more than enough; a length cut down to 16 bits would be too short.
+    if to.chance.one_in(5000) {
+        return 65_536 + to.chance.pick(&[0, asked / 2, asked.saturating_sub(1)]);
+    }
+    match to.chance.below(40) {
+        0..=2 => asked.saturating_sub(1),
+        3 => asked / 2,
+        4 => 0,
+        5..=20 => asked + to.chance.below(6),
+        _ => asked,
+    }
+}
+
+/// A zone of a question; sometimes one that there is not.
+fn asked(zones: usize, chance: &mut Chance) -> usize {
+    let zone = chance.below(zones.max(1));
+    match chance.below(60) {
+        0 => zones,
+        1 => zones + 1,
+        2 => 65_536 + zone,
+        3 => (1 << 32) + zone,
+        4 => usize::MAX,
+        5 => chance.pick(&[255, 256, 1023, 1024, 1025, 65_535, 65_536, usize::MAX / 2 + 1]),
+        _ => zone,
+    }
+}
+
+/// A good network of one of several makes.
+pub fn network(chance: &mut Chance) -> Net {
+    let zones = match chance.below(5000) {
+        0 => 1024,
+        1..=10 => 129 + chance.below(150),
+        11..=60 => 33 + chance.below(96),
+        61..=2500 => 1 + chance.below(6),
+        _ => 1 + chance.below(14),
+    };
+    if zones == 1 {
+        return Net::new(1, &[]);
+    }
+    let many = if zones == 1024 { chance.pick(&[0, 1, 500, 4096]) } else { chance.below(3 * zones) };
+    let pair = |chance: &mut Chance| {
+        let tail = chance.below(zones);
+        (tail, (tail + 1 + chance.below(zones - 1)) % zones)
+    };
+    let mut arcs: Vec<(usize, usize)> = (0..many).map(|_| pair(chance)).collect();
+    match chance.below(7) {
+        // As they are, many or few.
+        0 => {}
+        1 => arcs.truncate(many / 3),
+        // Without rings.
+        2 => arcs.iter_mut().for_each(|arc| *arc = (arc.0.min(arc.1), arc.0.max(arc.1))),
+        // From the first zones to the last only: sources and sinks that are
+        // hard to pair. The split is anywhere.
+        3 => {
+            let split = 1 + chance.below(zones - 1);
+            arcs.truncate(1 + zones);
+            for arc in &mut arcs {
+                *arc = (arc.0 % split, split + arc.1 % (zones - split));
+            }
+        }
+        // In groups of zones that have nothing to do with each other.
+        4 => {
+            let group = 1 + chance.below(4);
+            arcs.retain(|arc| arc.0 / group == arc.1 / group);
+        }
+        // Many sources to few sinks and few sources to many sinks, so that
+        // several stay unpaired on both sides.
+        5 if zones > 3 => {
+            let few = 1 + chance.below(2);
+            let split = zones / 2;
+            for arc in &mut arcs {
+                *arc = (arc.0 % split, split + arc.1 % (zones - split));
+                if chance.one_in(2) {
+                    arc.0 %= few;
+                } else {
+                    arc.1 = split + arc.1 % few;
+                }
+            }
+        }
+        // Small rings with arcs upward between them.
+        _ => {
+            let group = 2 + chance.below(3);
+            for arc in &mut arcs {
+                if arc.0 / group > arc.1 / group {
+                    *arc = (arc.1, arc.0);
+                }
+            }
+        }
+    }
+    if !arcs.is_empty() {
+        for _ in 0..chance.pick(&[0, 0, 1, 3]) {
+            let again = chance.pick(&arcs);
+            arcs.push(again);
+        }
+    }
+    arcs.truncate(model::MOST_ARCS);
+    families::mixed(zones, arcs, chance)
+}
+
+/// One to three damages, so that the order of the tests is seen.
+fn damage(net: &mut Net, chance: &mut Chance) {
+    let zones = net.zones;
+    for _ in 0..1 + chance.below(3) {
+        let arcs = net.tails.len();
+        let at = if arcs > 0 { chance.below(arcs) } else { 0 };
+        let at = if chance.one_in(4) { arcs.saturating_sub(1) } else { at };
+        // Very long lists take time and come seldom.
+        let kinds = if chance.one_in(200) { 9 } else { 7 };
+        match chance.below(kinds) {
+            0 | 1 => {
+                net.zones = match chance.below(11) {
+                    0 => 0,
+                    1 => 1025,
+                    2 => 65_536 + zones,
+                    3 => (1 << 32) + zones,
+                    4 => usize::MAX,
+                    5 => usize::MAX / 2 + 1 + zones,
+                    6 => 1026 + chance.below(70_000),
+                    7 => 65_536,
+                    8 => 1 << (11 + chance.below(53)),
+                    9 => zones - 1,
+                    _ => 1 + chance.below(zones),
+                }
+            }
+            // Lists of different length.
+            2 => {
+                let (short, long) = (chance.below(arcs + 1), arcs + 1 + chance.below(3));
+                let length = chance.pick(&[short, arcs.saturating_sub(1), long, arcs + 1]);
+                let list = if chance.one_in(2) { &mut net.tails } else { &mut net.heads };
+                list.resize(length, chance.below(zones) as u16);
+            }
+            // Zone numbers that there are not.
+            3 | 4 => {
+                let other = zones + chance.below(65_536 - zones);
+                let zone = chance.pick(&[zones, zones + 1, zones + 256, 1023, 1024, 32_768, 65_535, other]) as u16;
+                let list = if chance.one_in(2) { &mut net.tails } else { &mut net.heads };
+                if at < list.len() {
+                    list[at] = zone;
+                }
+            }
+            // An arc from a zone to itself, perhaps from one that there is not.
+            5 | 6 => {
+                if at < net.tails.len().min(net.heads.len()) {
+                    net.heads[at] = net.tails[at];
+                }
+            }
+            // More arcs than there may be; one list or both. A count cut down
+            // to 16 bits would be a small one.
+            many => {
+                let length = chance.pick(&[4096, 4097, 4097, 5000, 65_536, 65_536 + arcs, 65_537 + arcs]);
+                if many == 7 || chance.one_in(2) {
+                    net.tails.resize(length, 0);
+                }
+                if many == 7 || chance.one_in(2) {
+                    net.heads.resize(length, (zones > 1) as u16);
+                }
+            }
+        }
+    }
+}

@@ -1,0 +1,62 @@
+//! Every network of up to four zones without repeated arcs, every call and
+//! every reach question. Over all of them together: the plan's number of links
+//! is the fewest, skeletons are equal exactly where reach is, and equal
+//! skeletons have equal plans.
+
+use crate::compare::Comparer;
+use crate::model::{links, reduce};
+use crate::net::Net;
+use crate::properties;
+use crate::words::Table;
+use std::collections::HashMap;
+
+pub fn run(to: &mut Comparer, most_zones: usize) {
+    for zones in 1..=most_zones {
+        of_size(to, zones);
+    }
+}
+
+fn of_size(to: &mut Comparer, zones: usize) {
+    let pairs: Vec<(usize, usize)> =
+        (0..zones * zones).map(|i| (i / zones, i % zones)).filter(|(a, b)| a != b).collect();
+    let subset = |chosen: usize| -> Vec<(usize, usize)> {
+        (0..pairs.len()).filter(|bit| chosen >> bit & 1 == 1).map(|bit| pairs[bit]).collect()
+    };
+    let subsets = 1 << pairs.len();
+
+    // The fewest arcs that make each subset strong: none if it is, else one
+    // more than the best of those with one arc more.
+    let mut fewest = vec![0; subsets];
+    for chosen in (0..subsets).rev() {
+        if !Table::new(&Net::new(zones, &subset(chosen))).strong() {
+            let more = (0..pairs.len()).filter(|bit| chosen >> bit & 1 == 0).map(|bit| fewest[chosen | 1 << bit]);
+            fewest[chosen] = 1 + more.min().unwrap();
+        }
+    }
+
+    let mut by_reach: HashMap<Table, Vec<(u16, u16)>> = HashMap::new();
+    let mut by_skeleton: HashMap<Vec<(u16, u16)>, (Table, links::Plan)> = HashMap::new();
+    for chosen in 0..subsets {
+        if to.full() {
+            return;
+        }
+        let net = Net::new(zones, &subset(chosen));
+        to.all(&net, None);
+        let table = properties::hold(to, &net);
+        let plan = links::plan(zones, &net.tails, &net.heads);
+        to.hold(plan.links.len() == fewest[chosen], || {
+            format!("model: fewest links are {}: {net}\n    {plan:?}", fewest[chosen])
+        });
+        let skeleton = reduce::skeleton(zones, &net.tails, &net.heads);
+        let same = by_reach.entry(table.clone()).or_insert_with(|| skeleton.clone()).clone();
+        to.hold(same == skeleton, || format!("model: equal reach, other skeleton: {net}\n    {skeleton:?} {same:?}"));
+        let same = by_skeleton.entry(skeleton).or_insert_with(|| (table.clone(), plan.clone())).clone();
+        to.hold(same.0 == table, || format!("model: equal skeleton, other reach: {net}"));
+        to.hold(same.1 == plan, || format!("model: equal skeleton, other plan: {net}"));
+
+        // The same network with its arcs in another order.
+        let mut arcs = subset(chosen);
+        to.chance.shuffle(&mut arcs);
+        to.all(&Net::new(zones, &arcs), Some(2));
+    }
+}

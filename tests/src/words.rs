@@ -1,0 +1,156 @@
+//! The rules by their words, over a table of which zone reaches which.
+//!
+//! Slow and short. The model is compared with this on every good network, so
+//! that a slip in its quicker methods would be seen without the archive.
+
+use crate::model::links::{Link, Plan, BACK, CHAIN, RING};
+use crate::net::Net;
+
+/// Which zone reaches which, a row of bits for each zone.
+#[derive(Clone, PartialEq, Eq, Hash, Debug)]
+pub struct Table {
+    zones: usize,
+    words: usize,
+    bits: Vec<u64>,
+}
+
+impl Table {
+    pub fn new(net: &Net) -> Table {
+        let (zones, words) = (net.zones, net.zones.div_ceil(64));
+        let mut table = Table { zones, words, bits: vec![0; zones * words] };
+        for zone in 0..zones {
+            table.set(zone, zone);
+        }
+        for (&tail, &head) in net.tails.iter().zip(&net.heads) {
+            table.set(usize::from(tail), usize::from(head));
+        }
+        // Warshall: by way of `through`, what reaches it reaches what it does.
+        for through in 0..zones {
+            for zone in 0..zones {
+                if table.reaches(zone, through) {
+                    for word in 0..words {
+                        table.bits[zone * words + word] |= table.bits[through * words + word];
+                    }
+                }
+            }
+        }
+        table
+    }
+
+    fn set(&mut self, from: usize, to: usize) {
+        self.bits[from * self.words + to / 64] |= 1 << (to % 64);
+    }
+
+    pub fn reaches(&self, from: usize, to: usize) -> bool {
+        self.bits[from * self.words + to / 64] >> (to % 64) & 1 == 1
+    }
+
+    pub fn strong(&self) -> bool {
+        (0..self.zones).all(|a| (0..self.zones).all(|b| self.reaches(a, b)))
+    }
+
+    /// The name of each zone's component.
+    fn names(&self) -> Vec<usize> {
+        let one = |a: usize| (0..self.zones).find(|&b| self.reaches(a, b) && self.reaches(b, a)).unwrap();
+        (0..self.zones).map(one).collect()
+    }
+}
+
+/// The arcs between components, by name, each once.
+fn between(net: &Net, names: &[usize]) -> Vec<(usize, usize)> {
+    let ends = net.tails.iter().zip(&net.heads);
+    let mut arcs: Vec<(usize, usize)> =
+        ends.map(|(&a, &b)| (names[usize::from(a)], names[usize::from(b)])).filter(|(a, b)| a != b).collect();
+    arcs.sort();
+    arcs.dedup();
+    arcs
+}
+
+pub fn skeleton(net: &Net, table: &Table) -> Vec<(u16, u16)> {
+    let names = table.names();
+    let components: Vec<usize> = (0..net.zones).filter(|&zone| names[zone] == zone).collect();
+    let mut arcs = Vec::new();
+    for &name in &components {
+        let members: Vec<usize> = (0..net.zones).filter(|&zone| names[zone] == name).collect();
+        if members.len() >= 2 {
+            for i in 0..members.len() {
+                arcs.push((members[i], members[(i + 1) % members.len()]));
+            }
+        }
+    }
+    for (a, b) in between(net, &names) {
+        let third = |&c: &usize| c != a && c != b && table.reaches(a, c) && table.reaches(c, b);
+        if !components.iter().any(third) {
+            arcs.push((a, b));
+        }
+    }
+    arcs.sort();
+    arcs.into_iter().map(|(a, b)| (a as u16, b as u16)).collect()
+}
+
+pub fn plan(net: &Net, table: &Table) -> Plan {
+    let names = table.names();
+    let arcs = between(net, &names);
+    let out = |name: usize| arcs.iter().any(|arc| arc.0 == name);
+    let into = |name: usize| arcs.iter().any(|arc| arc.1 == name);
+    let of = |o: bool, i: bool| -> Vec<usize> {
+        (0..net.zones).filter(|&zone| names[zone] == zone && out(zone) == o && into(zone) == i).collect()
+    };
+    let (sources, sinks, x) = (of(true, false), of(false, true), of(false, false));
+    let counts = |pairs: usize, links: Vec<Link>| Plan {
+        sources: sources.len(),
+        sinks: sinks.len(),
+        alone: x.len(),
+        pairs,
+        links,
+    };
+    if table.strong() {
+        return counts(0, Vec::new());
+    }
+    let turned = sources.len() > sinks.len();
+    let reaches = |a: usize, b: usize| if turned { table.reaches(b, a) } else { table.reaches(a, b) };
+    let (from, to) = if turned { (&sinks, &sources) } else { (&sources, &sinks) };
+
+    // Lists from 1, as in the rule; element 0 is not used.
+    let (mut v, mut w) = (vec![usize::MAX], vec![usize::MAX]);
+    for &source in from {
+        if let Some(&sink) = to.iter().find(|&&sink| reaches(source, sink) && !w.contains(&sink)) {
+            v.push(source);
+            w.push(sink);
+        }
+    }
+    let (p, s, t) = (v.len() - 1, from.len(), to.len());
+    for &source in from {
+        if !v.contains(&source) {
+            v.push(source);
+        }
+    }
+    for &sink in to {
+        if !w.contains(&sink) {
+            w.push(sink);
+        }
+    }
+
+    let mut links = Vec::new();
+    let mut link = |a: usize, b: usize, why: u16| {
+        let (a, b) = if turned { (b, a) } else { (a, b) };
+        links.push(Link { from: a as u16, to: b as u16, why });
+    };
+    for i in 1..p {
+        link(w[i], v[i + 1], RING);
+    }
+    let mut steps = Vec::new();
+    if s > 0 {
+        steps.push(w[p]);
+        steps.extend((s + 1..=t).map(|i| w[i]));
+    }
+    steps.extend(&x);
+    steps.push(if s > 0 { v[1] } else { x[0] });
+    for i in 1..steps.len() {
+        link(steps[i - 1], steps[i], CHAIN);
+    }
+    for i in p + 1..=s {
+        link(w[i], v[i], BACK);
+    }
+    counts(p, links)
+}

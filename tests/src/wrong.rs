@@ -1,0 +1,299 @@
+//! The six calls, each made by the model and then spoilt in one of many ways.
+//!
+//! Only the self-test uses them: it puts them in place of the archive's calls
+//! to see that the comparing finds every fault out.
+
+use crate::calls::Calls;
+use crate::model::{self, graph, Answer};
+use std::slice::{from_raw_parts, from_raw_parts_mut};
+use std::sync::atomic::{AtomicUsize, Ordering};
+
+/// What is wrong; fault 0 is none.
+pub const FAULTS: [&str; 36] = [
+    "nothing",
+    "a refusal's place is one too high",
+    "a refusal keeps a value",
+    "the last number of the answer is not 0",
+    "DONE has a place",
+    "the answer's last number is not written",
+    "a write just after an output list",
+    "a write just before an output list",
+    "an output element after the result changes",
+    "the last asked element of work memory is not cleared",
+    "one element of work memory too many is cleared",
+    "a refusal clears work memory",
+    "a refused file has stored its first arc",
+    "an input element changes",
+    "a zone count is cut to 16 bits",
+    "a zone of a question is cut to 16 bits",
+    "an arc count is cut to 16 bits",
+    "a file's length is cut to 16 bits",
+    "work memory's length is cut to 16 bits",
+    "ZONES is tested before PAIR",
+    "ROOM is tested before RANGE",
+    "SELF is tested before RANGE",
+    "LOOSE is placed at the last group",
+    "SHORT is placed at the number's first byte",
+    "a file's ROOM is placed at 0",
+    "strong is always no",
+    "reach is always no",
+    "reach is asked the other way round",
+    "the skeleton copies its input",
+    "the skeleton is in another order",
+    "the skeleton drops an arc that has another beside it",
+    "the last arc is forgotten",
+    "the plan has a link for a strong network",
+    "two links are exchanged",
+    "the last link's why is another",
+    "the number of pairs is that of all sources",
+];
+
+pub static FAULT: AtomicUsize = AtomicUsize::new(0);
+
+fn fault(name: &str) -> bool {
+    FAULTS[FAULT.load(Ordering::Relaxed)] == name
+}
+
+pub const WRONG: Calls = Calls { read, write, strong, reach, skeleton, plan };
+
+fn cut(zones: usize) -> usize {
+    if fault("a zone count is cut to 16 bits") {
+        zones & 0xffff
+    } else {
+        zones
+    }
+}
+
+/// The list as a call with faults sees it.
+unsafe fn arcs<'a>(list: *const u16, length: usize) -> &'a [u16] {
+    if fault("an input element changes") && length > 0 {
+        *list.cast_mut() = (*list).wrapping_add(1);
+    }
+    if fault("an arc count is cut to 16 bits") {
+        return from_raw_parts(list, length & 0xffff);
+    }
+    if fault("the last arc is forgotten") {
+        return from_raw_parts(list, length.saturating_sub(1));
+    }
+    from_raw_parts(list, length)
+}
+
+/// Work memory as a call with faults sees it.
+unsafe fn memory<'a>(work: *mut u16, length: usize) -> &'a mut [u16] {
+    let cut = fault("work memory's length is cut to 16 bits");
+    from_raw_parts_mut(work, if cut { length & 0xffff } else { length })
+}
+
+/// Faults in the order of the tests: the refusal that is given too early.
+fn early(zones: usize, tails: &[u16], heads: &[u16], room: bool) -> Option<Answer> {
+    let zones_bad = zones == 0 || zones > model::MOST_ZONES;
+    if fault("ZONES is tested before PAIR") && zones_bad {
+        return Some([4, 0, 0, 0, 0, 0, 0, 0]);
+    }
+    if zones_bad || tails.len() != heads.len() || tails.len() > model::MOST_ARCS {
+        return None;
+    }
+    if fault("ROOM is tested before RANGE") && !room {
+        return Some([9, 0, 0, 0, 0, 0, 0, 0]);
+    }
+    if fault("SELF is tested before RANGE") {
+        let place = tails.iter().zip(heads).position(|(a, b)| a == b)?;
+        let before = model::check(zones, &tails[..place], &heads[..place], &[]);
+        return before.is_ok().then_some([7, place as u64, 0, 0, 0, 0, 0, 0]);
+    }
+    None
+}
+
+/// Faults in the answer itself, and then it is handed out.
+unsafe fn give(mut answer: Answer, out: *mut u64) {
+    let refused = answer[0] != 0;
+    if fault("a refusal's place is one too high") && refused {
+        answer[1] += 1;
+    }
+    if fault("a refusal keeps a value") && refused {
+        answer[2] = 1;
+    }
+    if fault("the last number of the answer is not 0") {
+        answer[7] = 1;
+    }
+    if fault("DONE has a place") && !refused {
+        answer[1] = 1;
+    }
+    let count = if fault("the answer's last number is not written") { 7 } else { 8 };
+    from_raw_parts_mut(out, count).copy_from_slice(&answer[..count]);
+}
+
+/// Faults in an output list, `used` of whose elements are the result.
+unsafe fn spoil<T: Copy>(list: *mut T, length: usize, used: usize, other: T) {
+    if fault("a write just after an output list") {
+        *list.add(length) = other;
+    }
+    if fault("a write just before an output list") {
+        *list.sub(1) = other;
+    }
+    if fault("an output element after the result changes") && used < length {
+        *list.add(used) = other;
+    }
+}
+
+/// Faults in work memory.
+unsafe fn spoil_work(answer: &Answer, zones: usize, arcs: usize, work: *mut u16, length: usize) {
+    if answer[0] != 0 {
+        if fault("a refusal clears work memory") {
+            from_raw_parts_mut(work, length).fill(0);
+        }
+        return;
+    }
+    let asked = model::work_asked(zones, arcs);
+    if fault("the last asked element of work memory is not cleared") {
+        *work.add(asked - 1) = 7;
+    }
+    if fault("one element of work memory too many is cleared") && asked < length {
+        *work.add(asked) = 0;
+    }
+}
+
+unsafe extern "C" fn read(
+    file: *const u8, file_len: usize,
+    tails: *mut u16, tails_len: usize, heads: *mut u16, heads_len: usize, out: *mut u64,
+) {
+    let cut_len = if fault("a file's length is cut to 16 bits") { file_len & 0xffff } else { file_len };
+    let bytes = from_raw_parts(file, cut_len);
+    let mut answer = model::read(bytes, from_raw_parts_mut(tails, tails_len), from_raw_parts_mut(heads, heads_len));
+    let start = answer[1] as usize;
+    if fault("LOOSE is placed at the last group") && answer[0] == 3 {
+        answer[1] += bytes[start..].iter().position(|&byte| byte < 128).unwrap() as u64;
+    }
+    if fault("SHORT is placed at the number's first byte") && answer[0] == 1 {
+        answer[1] -= bytes.iter().rev().take_while(|&&byte| byte >= 128).count() as u64;
+    }
+    if fault("a file's ROOM is placed at 0") && answer[0] == 9 {
+        answer[1] = 0;
+    }
+    let late = [6, 7, 8].contains(&answer[0]) && start > 5 && tails_len > 0;
+    if fault("a refused file has stored its first arc") && late {
+        *tails = u16::from(bytes[2]);
+    }
+    spoil(tails, tails_len, answer[3] as usize, 7);
+    give(answer, out);
+}
+
+unsafe extern "C" fn write(
+    zones: usize, tails: *const u16, tails_len: usize, heads: *const u16, heads_len: usize,
+    file: *mut u8, file_len: usize, out: *mut u64,
+) {
+    let (zones, tails, heads) = (cut(zones), arcs(tails, tails_len), arcs(heads, heads_len));
+    let answer = early(zones, tails, heads, file_len > 0)
+        .unwrap_or_else(|| model::write(zones, tails, heads, from_raw_parts_mut(file, file_len)));
+    spoil(file, file_len, answer[2] as usize, 7);
+    give(answer, out);
+}
+
+unsafe extern "C" fn strong(
+    zones: usize, tails: *const u16, tails_len: usize, heads: *const u16, heads_len: usize,
+    work: *mut u16, work_len: usize, out: *mut u64,
+) {
+    let (zones, tails, heads) = (cut(zones), arcs(tails, tails_len), arcs(heads, heads_len));
+    let mut answer = early(zones, tails, heads, work_len > 0)
+        .unwrap_or_else(|| model::strong(zones, tails, heads, memory(work, work_len)));
+    if fault("strong is always no") {
+        answer[2] = 0;
+    }
+    spoil_work(&answer, zones, tails.len(), work, work_len);
+    give(answer, out);
+}
+
+unsafe extern "C" fn reach(
+    zones: usize, tails: *const u16, tails_len: usize, heads: *const u16, heads_len: usize,
+    mut from: usize, mut to: usize, work: *mut u16, work_len: usize, out: *mut u64,
+) {
+    let (zones, tails, heads) = (cut(zones), arcs(tails, tails_len), arcs(heads, heads_len));
+    if fault("a zone of a question is cut to 16 bits") {
+        (from, to) = (from & 0xffff, to & 0xffff);
+    }
+    if fault("reach is asked the other way round") {
+        (from, to) = (to, from);
+    }
+    let mut answer = early(zones, tails, heads, work_len > 0)
+        .unwrap_or_else(|| model::reach(zones, tails, heads, from, to, memory(work, work_len)));
+    if fault("reach is always no") {
+        answer[2] = 0;
+    }
+    spoil_work(&answer, zones, tails.len(), work, work_len);
+    give(answer, out);
+}
+
+unsafe extern "C" fn skeleton(
+    zones: usize, tails: *const u16, tails_len: usize, heads: *const u16, heads_len: usize,
+    out_tails: *mut u16, out_tails_len: usize, out_heads: *mut u16, out_heads_len: usize,
+    work: *mut u16, work_len: usize, out: *mut u64,
+) {
+    let (zones, tails, heads) = (cut(zones), arcs(tails, tails_len), arcs(heads, heads_len));
+    let one = from_raw_parts_mut(out_tails, out_tails_len);
+    let two = from_raw_parts_mut(out_heads, out_heads_len);
+    let mut answer = early(zones, tails, heads, work_len > 0)
+        .unwrap_or_else(|| model::skeleton(zones, tails, heads, one, two, memory(work, work_len)));
+    let count = answer[2] as usize;
+    if answer[0] == 0 && fault("the skeleton copies its input") {
+        one[..tails.len()].copy_from_slice(tails);
+        two[..heads.len()].copy_from_slice(heads);
+        answer[2] = tails.len() as u64;
+    }
+    if fault("the skeleton is in another order") && count > 1 {
+        one.swap(count - 1, count - 2);
+        two.swap(count - 1, count - 2);
+    }
+    if answer[0] == 0 && fault("the skeleton drops an arc that has another beside it") {
+        answer[2] = drop_beside(zones, tails, heads, one, two, count) as u64;
+    }
+    spoil(out_heads, out_heads_len, answer[2] as usize, 7);
+    spoil_work(&answer, zones, tails.len(), work, work_len);
+    give(answer, out);
+}
+
+/// Takes out of a skeleton the arcs between components that more than one arc
+/// of the network joins.
+fn drop_beside(zones: usize, tails: &[u16], heads: &[u16], one: &mut [u16], two: &mut [u16], count: usize) -> usize {
+    let of = graph::components(zones, &graph::rows(zones, tails, heads)).of;
+    let pair = |a: u16, b: u16| (of[usize::from(a)], of[usize::from(b)]);
+    let mut kept = 0;
+    for arc in 0..count {
+        let ends = pair(one[arc], two[arc]);
+        let beside = tails.iter().zip(heads).filter(|(&a, &b)| pair(a, b) == ends).count();
+        if ends.0 == ends.1 || beside < 2 {
+            (one[kept], two[kept]) = (one[arc], two[arc]);
+            kept += 1;
+        }
+    }
+    kept
+}
+
+unsafe extern "C" fn plan(
+    zones: usize, tails: *const u16, tails_len: usize, heads: *const u16, heads_len: usize,
+    from: *mut u16, from_len: usize, to: *mut u16, to_len: usize, why: *mut u16, why_len: usize,
+    work: *mut u16, work_len: usize, out: *mut u64,
+) {
+    let (zones, tails, heads) = (cut(zones), arcs(tails, tails_len), arcs(heads, heads_len));
+    let one = from_raw_parts_mut(from, from_len);
+    let two = from_raw_parts_mut(to, to_len);
+    let three = from_raw_parts_mut(why, why_len);
+    let mut answer = early(zones, tails, heads, work_len > 0)
+        .unwrap_or_else(|| model::plan(zones, tails, heads, one, two, three, memory(work, work_len)));
+    let count = answer[6] as usize;
+    if fault("the plan has a link for a strong network") && answer[0] == 0 && count == 0 {
+        (one[0], two[0], three[0], answer[6]) = (0, 0, 1, 1);
+    }
+    if fault("two links are exchanged") && count > 1 {
+        one.swap(0, 1);
+        two.swap(0, 1);
+    }
+    if fault("the last link's why is another") && count > 0 {
+        three[count - 1] = (three[count - 1] + 1) % 3;
+    }
+    if fault("the number of pairs is that of all sources") {
+        answer[5] = answer[2].min(answer[3]);
+    }
+    spoil(why, why_len, answer[6] as usize, 7);
+    spoil_work(&answer, zones, tails.len(), work, work_len);
+    give(answer, out);
+}
