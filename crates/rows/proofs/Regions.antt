@@ -6,6 +6,7 @@
 --   holds-none, holds-snoc   no list at all, and one element more by a store behind the list
 --   holds-append             two lists, one behind the other; holds-left, holds-right take them apart again
 --   holds-take, holds-drop   a front and a rest of the list
+--   at-below, at-kept        the same up to a place, or from a place on: each element there is the same
 --   part-store, part-below, part-kept, part-between   what changes elsewhere leaves a part as it is
 --   holds-store, holds-below, holds-kept, holds-between, holds-apart   ... and a list where it is
 -- The idea: each law is one of `take`, `drop` and `set`. Assumes nothing.
@@ -18,7 +19,7 @@ use native.Mathlib.Numerals.{add-one}
 use native.Mathlib.Omega.{arith}
 use lib.ListN.{length, getD, set, take, drop, length-set, length-take, length-drop, length-append, take-append-drop}
 use lib.Seq.{length-take-le, take-suc, take-nil, take-append-seam, drop-append-seam, drop-at, ext-getD, slice}
-use lib.Seq.{getD-drop, drop-set-lt, drop-set-add, take-set-le, take-suc-set, take-take, take-add, drop-drop}
+use lib.Seq.{getD-take, getD-drop, drop-set-lt, drop-set-add, take-set-le, take-suc-set, take-take, take-add, drop-drop}
 use Rattle.rows.specs.Regions.{part, Holds}
 use Rattle.rows.proofs.Parts.{part-at}
 
@@ -160,6 +161,18 @@ part-between w w' f t at m low high same =
     λ (l : List ℕ). part-below l (take t l) t at m high (take-take t t l (omega arith))
     in
     sym (front w') ∙ part-kept (take t w) (take t w') f at m low same ∙ front w
+
+-- the same up to the place n: each element before it is the same
+pub at-below : (w w' : List ℕ) (n i : ℕ) → i < n → take n w' ≡ take n w → getD w' i 0 ≡ getD w i 0
+at-below w w' n i low same =
+    sym (getD-take n w' i 0 low) ∙ ap (λ (l : List ℕ). getD l i 0) same ∙ getD-take n w i 0 low
+
+-- the same from the place n on: each element there or behind is the same
+pub at-kept : (w w' : List ℕ) (n i : ℕ) → n ≤ i → drop n w' ≡ drop n w → getD w' i 0 ≡ getD w i 0
+at-kept w w' n i high same =
+    let e : i ≡ n + (i - n) = omega arith in
+    rw e
+    (sym (getD-drop n w' (i - n) 0) ∙ ap (λ (l : List ℕ). getD l (i - n) 0) same ∙ getD-drop n w (i - n) 0)
 
 -- a store outside a part leaves it as it is
 pub part-store : (w : List ℕ) (at m i x : ℕ) → (i < at) ⊎ (at + m ≤ i) → part (set w i x) at m ≡ part w at m

@@ -3,6 +3,7 @@
 --   zeros-other      a store outside the marks changes nothing
 --   zeros-mark       a mark on a zone that had none takes one off
 --   zeros-clear, zeros-none, zeros-same   all are clear; none is; equal marks give equal numbers
+--   zeros-few, zeros-some    at most all are clear; fewer where one is not
 -- Each is by induction on the number of zones. Assumes nothing.
 use mathlib.Core.Path.{_≡_, refl, sym, ap, _∙_}
 use mathlib.Core.Logic.{_⊎_, inl, inr, ⊎-elim, _≢_}
@@ -15,7 +16,7 @@ use lib.Dec.{eqb, ltb}
 use lib.ListN.{length, getD, set}
 use lib.Seq.{getD-set-same, getD-set-other}
 use borrow.Author.Tests.{eqb-true, eqb-false, ltb-true, ltb-false, ne-eqb}
-use Rattle.rows.specs.Marks.{zeros}
+use Rattle.rows.specs.Marks.{one, zeros}
 
 -- two numbers are the same or not
 pub same? : (a b : ℕ) → (a ≡ b) ⊎ (a ≢ b)
@@ -65,6 +66,11 @@ zeros-mark w at (suc n) v x ne h fits e =
         let apart : at + n ≢ at + v = λ q. omega arith in
         rw (getD-set-other w (at + v) (at + n) x 0 apart) (omega arith)
 
+-- one element counts at most once
+one-few : (b : Bool) → one b ≤ 1
+one-few true = omega arith
+one-few false = omega arith
+
 -- where every mark is clear
 pub zeros-clear : (w : List ℕ) (at n : ℕ) → ((v : ℕ) → v < n → getD w (at + v) 0 ≡ 0) → zeros w at n ≡ n
 unfolding zeros
@@ -77,6 +83,24 @@ unfolding zeros
 zeros-none w at zero h = refl
 zeros-none w at (suc n) h =
     rw (zeros-none w at n (λ v l. h v (omega arith)), ne-eqb (getD w (at + n) 0) 0 (h n (omega arith)))
+
+-- no more are clear than there are
+pub zeros-few : (w : List ℕ) (at n : ℕ) → zeros w at n ≤ n
+unfolding zeros
+zeros-few w at zero = omega arith
+zeros-few w at (suc n) = omega (arith, zeros-few w at n, one-few (eqb (getD w (at + n) 0) 0))
+
+-- where one is not clear, fewer are clear than there are
+pub zeros-some : (w : List ℕ) (at n v : ℕ) → v < n → (getD w (at + v) 0 ≡ 0 → ⊥) → zeros w at n < n
+unfolding zeros
+zeros-some w at zero v h ne = absurd (omega arith)
+zeros-some w at (suc n) v h ne =
+    ⊎-elim
+    (λ (q : v ≡ n).
+    let last : getD w (at + n) 0 ≡ 0 → ⊥ = rw q at ne in
+    rw (ne-eqb (getD w (at + n) 0) 0 last) (omega (arith, zeros-few w at n)))
+    (λ l. omega (arith, zeros-some w at n v l ne, one-few (eqb (getD w (at + n) 0) 0)))
+    (eq-or-lt-of-le {n = v} {m = n} (omega arith))
 
 -- equal marks, equal counts
 pub zeros-same : (w w' : List ℕ) (at n : ℕ) → ((v : ℕ) → v < n → getD w' (at + v) 0 ≡ getD w (at + v) 0)

@@ -1,0 +1,6 @@
+-- Laws of the pairing in lent work memory.
+mod TakeOut
+mod Picking
+mod TurnLaws
+mod PairLaws
+pub mod CourseLaws

@@ -1,0 +1,72 @@
+-- `pairing::pair` meets its contract. The loop's invariant: the pairing has gone through the sources up to i. The
+-- measure is the number of sources left. Assumes nothing.
+use borrow.Author.Needs.{needs}
+use native.Mathlib.Omega.{arith}
+use mathlib.Core.Path.{_≡_}
+use Prim.Native.Nat.{_-_}
+use Rattle.pairing.specs.Pairs.{Places, places, Course}
+use Rattle.pairing.proofs.CourseLaws.{course-begun, course-done}
+use Rattle.pairing.proofs.pair.Statement.{statement}
+use Rattle.pairing.proofs.pair.Tie as tie
+
+abbrev Inv-loop : tie.InvT-loop
+Inv-loop work₀ zones starts rows s sources t sinks firsts seconds lone i₀ p₀ work i p =
+    Course work₀ work (places zones starts rows s sources t sinks firsts seconds lone) i p
+
+abbrev μ-loop : tie.MeasureT-loop
+μ-loop work₀ zones starts rows s sources t sinks firsts seconds lone i₀ p₀ work i p = s - i
+
+-- where everything stands
+abbrev layout : tie.Start Inv-loop μ-loop → Places
+layout c =
+    let a = c .args in
+    places (a .zones) (a .starts) (a .rows) (a .s) (a .sources) (a .t) (a .sinks) (a .firsts) (a .seconds) (a .lone)
+
+loop-holds : tie.Need-loop-holds Inv-loop μ-loop
+loop-holds c =
+    let e = c .before in
+    course-begun (e .args .work .now) (layout e) (e .pre)
+
+settle-requires : tie.Need-settle-requires Inv-loop μ-loop
+settle-requires c κs =
+    let l = c .before .before .loop in
+    record {
+      began = c .before .before .before .before .args .work .now;
+      course = l .inv;
+      more = search needs;
+    }
+
+add-i : tie.Need-add-i Inv-loop μ-loop
+add-i c = search needs
+
+loop-less : tie.Need-loop-less Inv-loop μ-loop
+loop-less c = search needs
+
+loop-again : tie.Need-loop-again Inv-loop μ-loop
+loop-again c =
+    let e = c .before .before .before .before .before .before .before in
+    c .before .before .settle .ensures (e .args .work .now) (c .before .before .before .before .before .loop .inv)
+
+same-length : tie.Need-same-length Inv-loop μ-loop
+same-length c = search needs
+
+returns : tie.Need-returns Inv-loop μ-loop
+returns c =
+    let e = c .before .before .before in
+    let l = c .before .loop in
+    let all : l .i ≡ e .args .s = omega (arith, l .inv .turns, c .loop-test .left) in
+    course-done (e .args .work .now) (l .work) (layout e) (l .p) (rw all at (l .inv))
+
+pub pair-spec : {M : Type 1} → statement M
+pair-spec =
+    tie.close
+    (tie.spec
+    Inv-loop
+    μ-loop
+    loop-holds
+    settle-requires
+    add-i
+    loop-less
+    loop-again
+    same-length
+    returns)

@@ -1,0 +1,3 @@
+-- What the contracts of the pairing say of lent work memory.
+pub mod Turn
+pub mod Pairs

@@ -1,0 +1,82 @@
+-- What stays where only marks and stack change. `Kept` holds of a store into either, and of one change after another.
+--   kept-same, kept-then, kept-marks, kept-stack     nothing, two changes, a store
+--   drop-deeper                                      memories that agree from a place on do so from a later one on
+--   kept-at, kept-rows                               what lies behind the stack is as it was: an element, the rows
+--   head-at, start-at, stop-at                       the rows that stand in w, said of w's elements
+-- Assumes nothing.
+use mathlib.Core.Path.{_≡_, refl, sym, ap, _∙_}
+use mathlib.Core.List.{List}
+use Prim.Native.Nat.{ℕ, _+_, _-_, _≤_, _<_}
+use native.Mathlib.Omega.{arith}
+use lib.ListN.{length, getD, take, drop, set, length-set}
+use lib.Seq.{getD-drop, drop-drop, take-set-le, take-set-lt, drop-set-lt}
+use Rattle.rows.specs.Rows.{rows-of}
+use Rattle.rows.proofs.Regions.{at-kept}
+use Rattle.search.specs.Marking.{Kept}
+
+-- nothing changes
+pub kept-same : (w : List ℕ) (marks stack n : ℕ) → Kept w w marks stack n
+kept-same w marks stack n = record { long = refl; below = refl; between = refl; above = refl }
+
+-- one change after another
+pub kept-then : {w w' w'' : List ℕ} {marks stack n : ℕ} →
+    Kept w w' marks stack n → Kept w' w'' marks stack n → Kept w w'' marks stack n
+kept-then p q =
+    record {
+      long = q .long ∙ p .long;
+      below = q .below ∙ p .below;
+      between = q .between ∙ p .between;
+      above = q .above ∙ p .above;
+    }
+
+module _ (w : List ℕ) (marks stack n i x : ℕ) (apart : marks + n ≤ stack) where
+  -- a store among the marks
+  pub kept-marks : marks ≤ i → i < marks + n → Kept w (set w i x) marks stack n
+  kept-marks low high =
+      record {
+        long = length-set w i x;
+        below = take-set-le marks w i x low;
+        between =
+            ap (drop (marks + n)) (take-set-lt stack w i x (omega arith))
+            ∙ drop-set-lt (marks + n) (take stack w) i x high;
+        above = drop-set-lt (stack + n) w i x (omega arith);
+      }
+
+  -- a store into the stack
+  pub kept-stack : stack ≤ i → i < stack + n → Kept w (set w i x) marks stack n
+  kept-stack low high =
+      record {
+        long = length-set w i x;
+        below = take-set-le marks w i x (omega arith);
+        between = ap (drop (marks + n)) (take-set-le stack w i x low);
+        above = drop-set-lt (stack + n) w i x high;
+      }
+
+-- memories that agree from a place on agree from any later place on
+pub drop-deeper : (w w' : List ℕ) (a b : ℕ) → a ≤ b → drop a w' ≡ drop a w → drop b w' ≡ drop b w
+drop-deeper w w' a b h same =
+    let e : b ≡ a + (b - a) = omega arith in
+    rw e (sym (drop-drop (b - a) a w') ∙ ap (drop (b - a)) same ∙ drop-drop (b - a) a w)
+
+module _ (w w' : List ℕ) (marks stack n : ℕ) (K : Kept w w' marks stack n) where
+  -- an element behind the stack is as it was
+  pub kept-at : (i : ℕ) → stack + n ≤ i → getD w' i 0 ≡ getD w i 0
+  kept-at i h = at-kept w w' (stack + n) i h (K .above)
+
+  -- rows behind the stack are as they were
+  pub kept-rows : (starts : ℕ) → stack + n ≤ starts → drop starts w' ≡ drop starts w
+  kept-rows starts h = drop-deeper w w' (stack + n) starts h (K .above)
+
+module _ (w : List ℕ) (zones starts rows : ℕ) where
+  -- the head at a place of the rows
+  pub head-at : (i : ℕ) → starts ≤ i → rows-of w zones starts rows .head i ≡ getD w i 0
+  head-at i h = getD-drop starts w (i - starts) 0 ∙ ap (λ (k : ℕ). getD w k 0) (omega arith)
+
+  -- where a row starts
+  pub start-at : (z : ℕ) → rows-of w zones starts rows .start z ≡ rows + getD w (starts + z) 0
+  start-at z = ap (λ (k : ℕ). rows + k) (getD-drop starts w z 0)
+
+  -- where a row stops
+  pub stop-at : (z : ℕ) → rows-of w zones starts rows .stop z ≡ rows + getD w (starts + z + 1) 0
+  stop-at z =
+      ap (λ (k : ℕ). rows + k) (getD-drop starts w (z + 1) 0 ∙ ap (λ (k : ℕ). getD w k 0) (omega arith))

@@ -1,0 +1,6 @@
+-- Laws of the search over arranged rows.
+pub mod Keeping
+mod Turn
+pub mod Course
+pub mod Closed
+pub mod Laying

@@ -1,0 +1,2 @@
+-- What the search over arranged rows promises.
+pub mod Marking
