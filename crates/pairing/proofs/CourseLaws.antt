@@ -24,7 +24,8 @@ use Rattle.rows.proofs.ArrangedLaws.{arranged-kept}
 use Rattle.search.specs.Marking.{Laid}
 use Rattle.search.proofs.Course.{laid-same}
 use Rattle.pairing.specs.Turn.{Turnable, answered, Turned}
-use Rattle.pairing.specs.Pairs.{Places, sources-in, sinks-in, reach-in, Pairable, firsts, seconds, Others, Course, Paired}
+use Rattle.pairing.specs.Pairs.{Places, sources-in, sinks-in, reach-in, firsts, seconds}
+use Rattle.pairing.specs.Pairs.{Pairable, Others, Course, Paired}
 use Rattle.pairing.proofs.PairLaws.{
   couple,
   lone-more,

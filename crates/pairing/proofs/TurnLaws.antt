@@ -12,7 +12,8 @@ use mathlib.Core.Bool.{true, false}
 use mathlib.Core.List.{List}
 use Prim.Native.Nat.{ℕ, _+_, _-_, _≤_, _<_}
 use native.Mathlib.Omega.{arith}
-use lib.ListN.{length, getD, drop, replicate, length-append, length-replicate, length-drop, List·getD-append, getD-replicate}
+use lib.ListN.{length, getD, drop, replicate, length-append, length-replicate, length-drop}
+use lib.ListN.{List·getD-append, getD-replicate}
 use lib.Seq.{getD-append-add, getD-drop, drop-drop, drop-append-add}
 use Rattle.rules.specs.Lists.{cleared}
 use Rattle.rules.specs.Network.{Arc, network-of, Proper, reaches}
@@ -82,7 +83,8 @@ module _ (w : List ℕ) (zones starts rows source at left : ℕ) (T : Turnable w
   searchable =
       record {
         laid =
-            laid-same w (cleared zones w) zones starts rows 0 zones (clear-long w zones marks-fit) rows-clear (T .laid);
+            laid-same w (cleared zones w) zones starts rows 0 zones (clear-long w zones marks-fit) rows-clear
+            (T .laid);
         closed = clear-closed (cleared zones w) zones starts rows 0 marks-clear;
         zone = T .zone;
       }
@@ -152,7 +154,8 @@ module _ (w : List ℕ) (zones starts rows source at left : ℕ) (T : Turnable w
           (reaches (network-of zones es) source v)
           (λ t.
           S .complete v
-          (reach-run (cleared zones w) zones starts rows es arranged B (reaches-sound (network-of zones es) source v t))
+          (reach-run (cleared zones w) zones starts rows es arranged B
+          (reaches-sound (network-of zones es) source v t))
           .1
           e)
 

@@ -6,9 +6,9 @@
 --   Others v w L     what the pairing leaves as it was
 --   Ordered w L r o  the ordering o stands in w, and r is the number of its pairs
 --   Paired v w L r   the pairing is done
--- The marks stand from 0 on and the stack from `zones` on. Sources and sinks stand in two regions, in either order. The
--- pairs' sources, the pairs' sinks, the lone sources and the rows follow, in this order. Each region has a place for
--- every zone.
+-- The marks stand from 0 on and the stack from `zones` on. Sources and sinks stand in two regions, in either order.
+-- The pairs' sources, the pairs' sinks, the lone sources and the rows follow, in this order. Each region has a place
+-- for every zone.
 use mathlib.Core.Path.{_≡_}
 use mathlib.Core.Logic.{_⊎_}
 use mathlib.Core.Bool.{Bool}
@@ -139,8 +139,8 @@ pub record Ordered (w : List ℕ) (L : Places) (r : ℕ) (o : Ordering) : Type 0
   pub lone-sources-held : Holds w (L .lone-at) (o .lone-sources)
   pub lone-sinks-held : Holds w (L .sinks-at) (o .lone-sinks)
 
--- the pairing is done: the memory holds the ordering of any network whose arcs are arranged in the rows, and all behind
--- the lone sources, the rows among it, is as it was
+-- the pairing is done: the memory holds the ordering of any network whose arcs are arranged in the rows, and all
+-- behind the lone sources, the rows among it, is as it was
 pub record Paired (v w : List ℕ) (L : Places) (r : ℕ) : Type 0 where
   pub others : Others v w L
   pub behind : (n : ℕ) → L .lone-at + L .zones ≤ n → drop n w ≡ drop n v

@@ -107,9 +107,9 @@ fn settle(
     }
 }
 
-// Pairs the s sources that stand from `sources` on with the t sinks from `sinks` on. The sources of the pairs then stand
-// from `firsts` on, their sinks from `seconds` on, the sources that stay unpaired from `lone` on, and the sinks that do
-// where the sinks stood. Answers the number of pairs.
+// Pairs the s sources that stand from `sources` on with the t sinks from `sinks` on. The sources of the pairs then
+// stand from `firsts` on, their sinks from `seconds` on, the sources that stay unpaired from `lone` on, and the sinks
+// that do where the sinks stood. Answers the number of pairs.
 pub fn pair(
     work: &mut [u16],
     zones: usize,

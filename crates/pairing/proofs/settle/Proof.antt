@@ -1,4 +1,5 @@
--- `pairing::settle` meets its contract: the source has its turn, and is stored by what the turn answers. Assumes nothing.
+-- `pairing::settle` meets its contract: the source has its turn, and is stored by what the turn answers.
+-- Assumes nothing.
 use borrow.Author.Needs.{needs}
 use native.Mathlib.Omega.{arith}
 use mathlib.Core.Path.{_≡_, refl}
@@ -22,9 +23,9 @@ abbrev entry : Here → tie.Start
 entry c = c .before .before .before .before .before
 
 -- where everything stands
-abbrev layout : Here → Places
+abbrev layout : tie.Start → Places
 layout c =
-    let a = entry c .args in
+    let a = c .args in
     places (a .zones) (a .starts) (a .rows) (a .s) (a .sources) (a .t) (a .sinks) (a .firsts) (a .seconds) (a .lone)
 
 -- the source
@@ -79,10 +80,7 @@ turn-requires : tie.Need-turn-requires
 turn-requires c κs =
     let e = c .before .before .before .before in
     let a = e .args in
-    let L =
-    places (a .zones) (a .starts) (a .rows) (a .s) (a .sources) (a .t) (a .sinks) (a .firsts) (a .seconds) (a .lone)
-    in
-    turnable (e .pre .began) (a .work .now) L (a .i) (a .p) (e .pre .course) (c .before .wide .result)
+    turnable (e .pre .began) (a .work .now) (layout e) (a .i) (a .p) (e .pre .course) (c .before .wide .result)
     (c .before .wide .ensures) (e .pre .more)
 
 enum-told : tie.Need-enum-told
@@ -108,8 +106,8 @@ returns c =
     let d = c .before .before .before .before in
     let a = entry d .args in
     λ v C.
-    course-lone v (a .work .now) (layout d) (a .i) (a .p) C (source d) refl (entry d .pre .more) (after d)
-    (turned d Nothing (c .enum-told .given .1))
+    course-lone v (a .work .now) (layout (entry d)) (a .i) (a .p) C (source d) refl
+    (entry d .pre .more) (after d) (turned d Nothing (c .enum-told .given .1))
 
 enum-known-z : tie.Need-enum-known-z
 enum-known-z c = search needs
@@ -146,8 +144,8 @@ returns-2 c =
     let d = turn-of (c .before) in
     let a = entry d .args in
     λ v C.
-    course-paired v (a .work .now) (layout d) (a .i) (a .p) C (source d) refl (entry d .pre .more) (after d)
-    (sink (c .before)) (taken (c .before))
+    course-paired v (a .work .now) (layout (entry d)) (a .i) (a .p) C (source d) refl
+    (entry d .pre .more) (after d) (sink (c .before)) (taken (c .before))
 
 pub settle-spec : {M : Type 1} → statement M
 settle-spec =

@@ -38,7 +38,8 @@ look : (c : Here) →
     × ((k : ℕ) → k < a .left → 0 + getD (marked c) (a .at + k) 0 < length (marked c))
 look c =
     let a = entry c .args in
-    lookable (a .work .now) (a .zones) (a .starts) (a .rows) (a .source) (a .at) (a .left) (entry c .pre) (marked c) (done c)
+    lookable (a .work .now) (a .zones) (a .starts) (a .rows) (a .source) (a .at) (a .left) (entry c .pre) (marked c)
+    (done c)
 
 -- a sink is found
 abbrev There : Type 0
@@ -106,7 +107,7 @@ wide-requires c κs = search needs
 take-out-requires : tie.Need-take-out-requires
 take-out-requires c κs =
     let d = c .before .before .before .before in
-    (found d .0, look (searched d) .0)
+    (omega (arith, found d .0), look (searched d) .0)
 
 same-length-2 : tie.Need-same-length-2
 same-length-2 c = search needs
@@ -117,8 +118,9 @@ returns-2 c =
     let s = searched d in
     let a = entry s .args in
     turned-found (a .work .now) (a .zones) (a .starts) (a .rows) (a .source) (a .at) (a .left) (entry s .pre)
-    (marked s) (done s) (c .before .before .take-out .last .0) (place d) (c .before .before .before .before .wide .result)
-    (found d) (c .before .before .before .before .wide .ensures) (c .before .before .take-out .ensures)
+    (marked s) (done s) (c .before .before .take-out .last .0) (place d)
+    (c .before .before .before .before .wide .result) (found d)
+    (c .before .before .before .before .wide .ensures) (c .before .before .take-out .ensures)
 
 pub turn-spec : {M : Type 1} → statement M
 turn-spec =
