@@ -1,0 +1,3 @@
+pub mod Troubles
+pub mod Along
+pub mod Fine

@@ -1,0 +1,90 @@
+-- `arcs_trouble` meets its contract. The loop's invariant: the first trouble of all arcs is the first of those from `i` on.
+-- Assumes nothing.
+use Prim.Native.Nat.{_≤_, _-_}
+use native.Mathlib.Omega.{arith}
+use mathlib.Core.Path.{_≡_, refl, sym, ap, _∙_}
+use lib.ListN.{length}
+use borrow.Author.Needs.{needs}
+use Rattle.tests.specs.Tested.{tested-trouble}
+use Rattle.tests.proofs.Along.{rest, rest-fine, rest-bad, rest-none}
+use Rattle.rules.specs.Calls.{first-trouble}
+use Rattle.tests.proofs.arcs_trouble.Statement.{statement}
+use Rattle.tests.proofs.arcs_trouble.Tie as tie
+
+abbrev Inv-loop : tie.InvT-loop
+Inv-loop zones tails heads i₀ i = (i ≤ length tails) × (first-trouble (rest zones 0 tails heads) ≡ first-trouble (rest zones i tails heads))
+
+abbrev μ-loop : tie.MeasureT-loop
+μ-loop zones tails heads i₀ i = length tails - i
+
+loop-holds : tie.Need-loop-holds Inv-loop μ-loop
+loop-holds c = (search needs, refl)
+
+mul-arc-trouble : tie.Need-mul-arc-trouble Inv-loop μ-loop
+mul-arc-trouble c = search needs
+
+shared-slice-read-arc-trouble : tie.Need-shared-slice-read-arc-trouble Inv-loop μ-loop
+shared-slice-read-arc-trouble c = search needs
+
+mul-arc-trouble-2 : tie.Need-mul-arc-trouble-2 Inv-loop μ-loop
+mul-arc-trouble-2 c = search needs
+
+shared-slice-read-arc-trouble-2 : tie.Need-shared-slice-read-arc-trouble-2 Inv-loop μ-loop
+shared-slice-read-arc-trouble-2 c = search needs
+
+arc-trouble-requires : tie.Need-arc-trouble-requires Inv-loop μ-loop
+arc-trouble-requires c κs = search needs
+
+enum-known-r : tie.Need-enum-known-r Inv-loop μ-loop
+enum-known-r c = search needs
+
+returns : tie.Need-returns Inv-loop μ-loop
+returns c =
+    let a = c .before .before .before .before .before .before .before .before .before .before .args in
+    let l = c .before .before .before .before .before .before .before .loop in
+    let e = sym (c .before .before .before .arc-trouble .ensures) ∙ ap tested-trouble (c .before .r .given .1) in
+    sym (l .inv .1 ∙ rest-bad (a .zones) (l .i) (a .tails .now) (a .heads .now) (omega arith) (omega arith) e)
+
+enum-told : tie.Need-enum-told Inv-loop μ-loop
+enum-told c = search needs
+
+add-i : tie.Need-add-i Inv-loop μ-loop
+add-i c = search needs
+
+loop-less : tie.Need-loop-less Inv-loop μ-loop
+loop-less c = search needs
+
+loop-again : tie.Need-loop-again Inv-loop μ-loop
+loop-again c =
+    let a = c .before .before .before .before .before .before .before .before .before .args in
+    let l = c .before .before .before .before .before .before .loop in
+    let e = sym (c .before .before .arc-trouble .ensures) ∙ ap tested-trouble (c .enum-told .given .1) in (
+      search needs,
+      l .inv .1 ∙ rest-fine (a .zones) (l .i) (a .tails .now) (a .heads .now) (omega arith) (omega arith) e,
+    )
+
+returns-2 : tie.Need-returns-2 Inv-loop μ-loop
+returns-2 c =
+    let a = c .before .before .before .before .args in
+    let l = c .before .loop in
+    sym (l .inv .1 ∙ rest-none (a .zones) (l .i) (a .tails .now) (a .heads .now) (omega arith))
+
+pub arcs-trouble-spec : {M : Type 1} → statement M
+arcs-trouble-spec =
+    tie.close
+    (tie.spec
+    Inv-loop
+    μ-loop
+    loop-holds
+    mul-arc-trouble
+    shared-slice-read-arc-trouble
+    mul-arc-trouble-2
+    shared-slice-read-arc-trouble-2
+    arc-trouble-requires
+    enum-known-r
+    returns
+    enum-told
+    add-i
+    loop-less
+    loop-again
+    returns-2)
