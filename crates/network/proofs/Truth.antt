@@ -23,7 +23,8 @@ use Rattle.rows.specs.Rows.{Entry, Run, rows-of}
 use Rattle.rows.specs.Marks.{Marked}
 use Rattle.rows.specs.Work.{starts-at, rows-at, turned-starts-at, turned-rows-at}
 use Rattle.rows.proofs.ArrangedLaws.{run-reach, reach-run, turned-run-reach, reach-turned-run}
-use Rattle.search.specs.Marking.{Searched}
+use Rattle.search.specs.Marking.{Clear, Searched}
+use Rattle.search.proofs.Closed.{searched-clear}
 use Rattle.network.specs.Marks.{Says-all}
 use Rattle.network.specs.Ready.{Standing}
 use Rattle.network.specs.Promises.{Swept}
@@ -31,12 +32,12 @@ use Rattle.network.proofs.Memory.{arcs-within}
 
 -- a search that says whether every zone is marked says whether it came everywhere
 pub swept : (w w' : List ℕ) (zones starts rows marks stack : ℕ) (b : Bool) →
-    Searched w w' zones starts rows 0 marks stack → Says-all w' marks zones b →
+    Clear w marks zones → Searched w w' zones starts rows 0 marks stack → Says-all w' marks zones b →
     Swept w w' zones starts rows marks stack b
-swept w w' zones starts rows marks stack b S A =
+swept w w' zones starts rows marks stack b clear S A =
     record {
       kept = S .kept;
-      yes = λ e v h. S .sound v h (A .yes e v h);
+      yes = λ e v h. searched-clear w zones starts rows marks clear w' 0 stack S v h (A .yes e v h);
       no = λ all. A .no (λ v h. S .complete v (all v h) .1);
     }
 
@@ -106,13 +107,14 @@ module _ (n : ℕ) (ts hs : List ℕ) (F : Fine n ts hs) where
 
   -- a search from a zone marks another exactly where it reaches it
   pub reached-truth : (before w w' : List ℕ) (from to stack : ℕ) → to < n → Standing before w n ts hs →
-      Searched w w' n (starts-at n) (rows-at n) from 0 stack →
+      Clear w 0 n → Searched w w' n (starts-at n) (rows-at n) from 0 stack →
       not (eqb (getD w' to 0) 0) ≡ reaches (handed n ts hs) from to
-  reached-truth before w w' from to stack h S D =
+  reached-truth before w w' from to stack h S clear D =
       bool-agree
       (λ e.
       let marked : Marked w' 0 to = λ z. eqb-false (getD w' to 0) 0 (not-true _ e) (place z) in
-      reaches-complete (fine-proper n ts hs F) (run-reaches before w S (D .sound to h marked)))
+      reaches-complete (fine-proper n ts hs F)
+      (run-reaches before w S (searched-clear w n (starts-at n) (rows-at n) 0 clear w' from stack D to h marked)))
       (λ e.
       let m = D .complete to (reaches-run before w S (reaches-sound (handed n ts hs) from to e)) .1 in
       false-not (ne-eqb (getD w' to 0) 0 (λ z. m (ap (λ (k : ℕ). getD w' k 0) (omega arith) ∙ z))))

@@ -8,7 +8,7 @@ ghost use lib.ListN.{length};
 ghost use Rattle.rules.specs.Network.{strong, reaches};
 ghost use Rattle.rules.specs.Calls.{first-trouble, network-tests, question-tests, room-test, asked-work, handed};
 ghost use Rattle.tests.specs.Tested.{tested-trouble};
-ghost use Rattle.search.specs.Marking.{Searchable};
+ghost use Rattle.search.specs.Marking.{Clear, Searchable};
 ghost use Rattle.network.specs.Marks.{Says-all};
 ghost use Rattle.network.specs.Ready.{Readyable, Readied};
 ghost use Rattle.network.specs.Promises.{Askable, Answered, Swept, Strong-promise, Reach-promise};
@@ -154,6 +154,7 @@ fn sweep(
     stack: usize,
 ) -> bool
     requires { ⌜ Searchable (now work) zones starts rows 0 marks stack ⌝ }
+    requires { ⌜ Clear (now work) marks zones ⌝ }
     ensures { λ r. ⌜ Swept (now (work .entry)) (now (work .exit)) zones starts rows marks stack r ⌝ }
 {
     search(work, zones, starts, rows, 0, marks, stack);

@@ -6,14 +6,14 @@
 -- A marked zone stands on the stack, or its whole row has marks. With the stack empty the marks are closed under
 -- entries, so a run that begins at a mark never leaves them.
 -- Assumes nothing.
-use mathlib.Core.Path.{_≡_, refl, sym, ap, _∙_}
+use mathlib.Core.Path.{_≡_, sym, ap, _∙_}
 use mathlib.Core.Logic.{_⊎_, inl, inr, ⊎-elim, _≢_}
 use mathlib.Core.List.{List}
-use Prim.Native.Nat.{ℕ, zero, suc, _+_, _-_, _≤_, _<_}
+use Prim.Native.Nat.{ℕ, _+_, _-_, _≤_, _<_}
 use native.Mathlib.Omega.{arith}
-use lib.ListN.{length, getD, drop, set, length-set}
-use Rattle.rows.specs.Rows.{Rows, Sound, Entry, Run, here, further, rows-of}
-use Rattle.rows.specs.Marks.{Marked, zeros}
+use lib.ListN.{length, getD, drop, set}
+use Rattle.rows.specs.Rows.{Entry, Run, here, further, rows-of}
+use Rattle.rows.specs.Marks.{Marked}
 use Rattle.rows.proofs.Zeros.{same?, below?, zeros-some}
 use Rattle.search.specs.Marking.{
   Kept,

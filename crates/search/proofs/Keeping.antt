@@ -8,7 +8,7 @@ use mathlib.Core.Path.{_≡_, refl, sym, ap, _∙_}
 use mathlib.Core.List.{List}
 use Prim.Native.Nat.{ℕ, _+_, _-_, _≤_, _<_}
 use native.Mathlib.Omega.{arith}
-use lib.ListN.{length, getD, take, drop, set, length-set}
+use lib.ListN.{getD, take, drop, set, length-set}
 use lib.Seq.{getD-drop, drop-drop, take-set-le, take-set-lt, drop-set-lt}
 use Rattle.rows.specs.Rows.{rows-of}
 use Rattle.rows.proofs.Regions.{at-kept}

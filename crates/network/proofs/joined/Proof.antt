@@ -6,6 +6,7 @@ use Prim.Native.Nat.{ℕ, _+_, _*_, _<_}
 use mathlib.Core.Path.{_≡_, _∙_}
 use lib.ListN.{length, getD}
 use Rattle.rules.specs.Calls.{asked-work}
+use Rattle.search.specs.Marking.{Clear}
 use Rattle.search.proofs.Keeping.{kept-at}
 use Rattle.network.specs.Ready.{Standing}
 use Rattle.network.proofs.Memory.{
@@ -42,8 +43,7 @@ standing-here c =
     (c .sweep .last .0) 0 (a .zones) (omega arith) (c .sweep .ensures .kept) (r .ensures .standing)
 
 -- the marks of the second sweep are clear
-clear-here : (c : Here) (v : ℕ) → v < entry c .args .zones →
-    getD (c .sweep .last .0) (2 * entry c .args .zones + v) 0 ≡ 0
+clear-here : (c : Here) → Clear (c .sweep .last .0) (2 * entry c .args .zones) (entry c .args .zones)
 clear-here c v h =
     let a = entry c .args in
     let r = arranged-at c .ready in
@@ -68,9 +68,12 @@ sweep-requires c κs =
     let r = c .before .before .before .ready in
     let s = c .before .before .before .before .before .before .before .before in
     let a = s .args in
-    rows-searchable (a .zones) (a .tails .now) (a .heads .now) (s .pre .fine) (a .work .now) (r .last .1 .1 .1 .0)
-    (s .pre) (r .ensures .standing) 0 (a .zones) (omega arith) (omega arith) 0 (omega (arith, s .pre .fine .low))
-    (λ v h. readied-zero (r .ensures) _ (omega arith))
+    let clear : Clear (r .last .1 .1 .1 .0) 0 (a .zones) = λ v h. readied-zero (r .ensures) _ (omega arith) in (
+      rows-searchable (a .zones) (a .tails .now) (a .heads .now) (s .pre .fine) (a .work .now) (r .last .1 .1 .1 .0)
+          (s .pre) (r .ensures .standing) 0 (a .zones) (omega arith) (omega arith) 0 (omega (arith, s .pre .fine .low))
+          clear,
+      clear,
+    )
 
 mul-sweep-3 : tie.Need-mul-sweep-3
 mul-sweep-3 c = search needs
@@ -100,10 +103,12 @@ sweep-requires-2 : tie.Need-sweep-requires-2
 sweep-requires-2 c κs =
     let d = c .before .before .before in
     let s = entry d in
-    let a = s .args in
-    turned-searchable (a .zones) (a .tails .now) (a .heads .now) (s .pre .fine) (a .work .now) (d .sweep .last .0)
-    (s .pre) (standing-here d) (2 * a .zones) (3 * a .zones) (omega arith) (omega arith) 0
-    (omega (arith, s .pre .fine .low)) (clear-here d)
+    let a = s .args in (
+      turned-searchable (a .zones) (a .tails .now) (a .heads .now) (s .pre .fine) (a .work .now) (d .sweep .last .0)
+          (s .pre) (standing-here d) (2 * a .zones) (3 * a .zones) (omega arith) (omega arith) 0
+          (omega (arith, s .pre .fine .low)) (clear-here d),
+      clear-here d,
+    )
 
 asked-work-requires : tie.Need-asked-work-requires
 asked-work-requires c κs = search needs

@@ -64,6 +64,7 @@ returns c =
       answer =
           reached-truth (a .zones) (a .tails .now) (a .heads .now) F (a .work .now) (r .last .1 .1 .1 .0)
           (d .search .last .0) (a .from) (a .to) (a .zones) (s .pre .to-zone) (r .ensures .standing)
+          (λ v h. readied-zero (r .ensures) _ (omega arith))
           (d .search .ensures);
       work = rw told at (x .ensures) ∙ cleared-back asked (a .work .now) (d .search .last .0) (after .beyond);
     }

@@ -18,7 +18,7 @@ returns c =
     let d = c .before .before .before .before in
     let a = d .before .before .before .args in
     swept (a .work .now) (d .search .last .0) (a .zones) (a .starts) (a .rows) (a .marks) (a .stack)
-    (c .all-marked .result) (d .search .ensures) (c .all-marked .ensures)
+    (c .all-marked .result) (d .before .before .before .pre .1) (d .search .ensures) (c .all-marked .ensures)
 
 pub sweep-spec : {M : Type 1} → statement M
 sweep-spec = tie.close (tie.spec search-requires all-marked-requires same-length returns)
