@@ -1,5 +1,5 @@
 -- What holds of a network that passes the tests.
---   fine           no trouble: the lists pair up, the counts are within their bounds, and every arc joins two distinct zones
+--   fine           no trouble: the lists pair up, the counts are within bounds, and every arc joins two distinct zones
 --   fine-proper    such a network is proper: its zones ascend, and its arcs are between zones
 --   fine-arc       an arc of it joins two distinct zones
 -- Each test that does not fail is one of the facts; the arcs go one after the other. Assumes nothing.
@@ -7,9 +7,10 @@ use Prim.Native.Nat.{ℕ, zero, suc, _+_, _≤_, _<_, zero-le}
 use native.Mathlib.Nat.{le-of-suc-le-suc, not-suc-le-zero, eq-or-lt-of-le}
 use native.Mathlib.Omega.{arith}
 use mathlib.Core.Path.{_≡_, refl, sym, ap, _∙_}
-use mathlib.Core.Logic.{⊎-elim}
-use mathlib.Core.List.{List, [], _∷_, zipWith, List·Memᴰ as In, List·Memᴰ·head, List·Memᴰ·tail, List·Memᴰ·cases-cons, List·Memᴰ·not-nil}
-use mathlib.Core.Option.{none}
+use mathlib.Core.Logic.{⊎-elim, _⊎_}
+use mathlib.Core.List.{List, [], _∷_, zipWith, List·Memᴰ as In, List·Memᴰ·head, List·Memᴰ·tail}
+use mathlib.Core.List.{List·Memᴰ·cases-cons, List·Memᴰ·not-nil}
+use mathlib.Core.Option.{none, some}
 use mathlib.Core.Bool.{Bool, true, false, not, _||_}
 use lib.Dec.{eqb, leb, ltb}
 use lib.ListN.{length, getD}
@@ -41,9 +42,11 @@ arcs-join : (n i : ℕ) (ts hs : List ℕ) → length ts ≡ length hs → first
 unfolding arcs-of zipWith
 arcs-join n i [] hs l e k h = absurd (not-suc-le-zero h)
 arcs-join n i (t ∷ ts) [] l e k h = omega arith
-arcs-join n i (t ∷ ts) (x ∷ hs) l e zero h = arc-joins n i t x (both-pass (arc-tests n i (t ⟶ x)) (arcs-tests n (suc i) (arcs-of ts hs)) e .0)
+arcs-join n i (t ∷ ts) (x ∷ hs) l e zero h =
+    arc-joins n i t x (both-pass (arc-tests n i (t ⟶ x)) (arcs-tests n (suc i) (arcs-of ts hs)) e .0)
 arcs-join n i (t ∷ ts) (x ∷ hs) l e (suc k) h =
-    arcs-join n (suc i) ts hs (omega arith) (both-pass (arc-tests n i (t ⟶ x)) (arcs-tests n (suc i) (arcs-of ts hs)) e .1) k (le-of-suc-le-suc h)
+    let p = both-pass (arc-tests n i (t ⟶ x)) (arcs-tests n (suc i) (arcs-of ts hs)) e in
+    arcs-join n (suc i) ts hs (omega arith) (p .1) k (le-of-suc-le-suc h)
 
 -- Where neither of two tests holds.
 pub neither : (a b : Bool) → (a || b) ≡ false → (a ≡ false) × (b ≡ false)

@@ -44,7 +44,8 @@ fn arc_trouble(zones: usize, tail: u16, head: u16, i: usize) -> Tested
 // The tests of the arcs, one after the other.
 fn arcs_trouble(zones: usize, tails: &[u16], heads: &[u16]) -> Tested
     requires { ⌜ length (now tails) ≡ length (now heads) ⌝ }
-    ensures { λ r. ⌜ tested-trouble r ≡ first-trouble (arcs-tests zones 0 (arcs-of (now (tails .entry)) (now (heads .entry)))) ⌝ }
+    ensures { λ r. ⌜ tested-trouble r
+        ≡ first-trouble (arcs-tests zones 0 (arcs-of (now (tails .entry)) (now (heads .entry)))) ⌝ }
 {
     let mut i = 0;
     while i < tails.len() {
@@ -59,7 +60,8 @@ fn arcs_trouble(zones: usize, tails: &[u16], heads: &[u16]) -> Tested
 
 // The first trouble of a network that is handed in.
 pub fn network_trouble(zones: usize, tails: &[u16], heads: &[u16]) -> Tested
-    ensures { λ r. ⌜ tested-trouble r ≡ first-trouble (network-tests zones (now (tails .entry)) (now (heads .entry))) ⌝ }
+    ensures { λ r. ⌜ tested-trouble r
+        ≡ first-trouble (network-tests zones (now (tails .entry)) (now (heads .entry))) ⌝ }
 {
     if tails.len() != heads.len() {
         return Tested::Refused(Trouble {

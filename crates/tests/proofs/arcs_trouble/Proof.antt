@@ -1,5 +1,5 @@
--- `arcs_trouble` meets its contract. The loop's invariant: the first trouble of all arcs is the first of those from `i` on.
--- Assumes nothing.
+-- `arcs_trouble` meets its contract. The loop's invariant: the first trouble of all arcs is that of the arcs from `i`
+-- on. Assumes nothing.
 use Prim.Native.Nat.{_≤_, _-_}
 use native.Mathlib.Omega.{arith}
 use mathlib.Core.Path.{_≡_, refl, sym, ap, _∙_}
@@ -12,7 +12,8 @@ use Rattle.tests.proofs.arcs_trouble.Statement.{statement}
 use Rattle.tests.proofs.arcs_trouble.Tie as tie
 
 abbrev Inv-loop : tie.InvT-loop
-Inv-loop zones tails heads i₀ i = (i ≤ length tails) × (first-trouble (rest zones 0 tails heads) ≡ first-trouble (rest zones i tails heads))
+Inv-loop zones tails heads i₀ i =
+    (i ≤ length tails) × (first-trouble (rest zones 0 tails heads) ≡ first-trouble (rest zones i tails heads))
 
 abbrev μ-loop : tie.MeasureT-loop
 μ-loop zones tails heads i₀ i = length tails - i

@@ -1,0 +1,5 @@
+-- Laws of the components: over plain functions, in the memory, and tied to the rules.
+pub mod Plain
+pub mod Lowest
+pub mod Passes
+mod Instance

@@ -1,0 +1,2 @@
+-- Laws of the naming in the memory.
+pub mod Laws

@@ -1,0 +1,4 @@
+-- Laws of the second pass in the memory.
+pub mod Joins
+pub mod Sweeps
+pub mod Collecting

@@ -1,0 +1,2 @@
+-- Laws of the listing in the memory.
+pub mod Laws

@@ -1,0 +1,7 @@
+-- Laws of stores one behind the other, and of the lists of links.
+pub mod Runs
+pub mod Shapes
+pub mod Pieces
+pub mod Columns
+pub mod Written
+pub mod Standing

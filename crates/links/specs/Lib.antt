@@ -1,0 +1,3 @@
+-- What the contracts over the writing of links say.
+pub mod Stores
+pub mod Linking

@@ -1,0 +1,105 @@
+-- The bytes of a network, and lists of bytes with others put into them.
+--   number-one, number-two, number-three   the bytes of a number by how many groups it has
+--   number-long, number-short   a number has at least one byte, and at most three
+--   sets-append           bytes put in, and others after them;   sets-whole   bytes put in at the start
+--   rest-bytes i ts hs    the bytes of the arcs from index i on, with rest-cons, rest-turn and rest-none
+-- Assumes nothing.
+use Prim.Native.Nat.{ℕ, suc, _+_, _/_, _%_, _≤_, _<_}
+use native.Mathlib.Nat.{zero-add, add-zero}
+use native.Mathlib.Numerals.{add-one}
+use native.Mathlib.Omega.{arith}
+use mathlib.Core.Path.{_≡_, _∙_}
+use mathlib.Core.List.{List, [], _∷_, _++_, append-assoc, zipWith}
+use mathlib.Core.Bool.{Bool, true, false, cond}
+use lib.Dec.{ltb}
+use lib.ListN.{length, getD, set, drop, length-append, drop-of-length-le}
+use lib.Seq.{drop-cons, sets, sets-eq}
+use borrow.Author.Tests.{lt-ltb, le-ltb}
+use Rattle.rules.specs.Lists.{over}
+use Rattle.rules.specs.Number.{number-bytes}
+use Rattle.rules.specs.File.{arc-bytes, arcs-bytes}
+use Rattle.rules.specs.Calls.{arcs-of}
+
+-- The bytes of a number of one group.
+pub number-one : (n : ℕ) → n < 128 → number-bytes n ≡ n ∷ []
+unfolding number-bytes
+number-one n h = rw (lt-ltb n 128 h)
+
+-- The bytes of a number of two groups.
+pub number-two : (n : ℕ) → 128 ≤ n → n < 16384 → number-bytes n ≡ (128 + n % 128) ∷ (n / 128) ∷ []
+unfolding number-bytes
+number-two n l h = rw (le-ltb n 128 l, lt-ltb n 16384 h)
+
+-- The bytes of a number of three groups.
+pub number-three : (n : ℕ) → 16384 ≤ n
+    → number-bytes n ≡ (128 + n % 128) ∷ (128 + n / 128 % 128) ∷ (n / 16384) ∷ []
+unfolding number-bytes
+number-three n l = rw (le-ltb n 128 (omega arith), le-ltb n 16384 l)
+
+-- A property of a length that holds of one, two and three holds of the length of a number.
+number-sizes : (P : ℕ → Type 0) → P 1 → P 2 → P 3 → (n : ℕ) → P (length (number-bytes n))
+unfolding number-bytes
+number-sizes P one two three n = go (ltb n 128) (ltb n 16384)
+  where
+    short : List ℕ
+    short = (128 + n % 128) ∷ (n / 128) ∷ []
+
+    long : List ℕ
+    long = (128 + n % 128) ∷ (128 + n / 128 % 128) ∷ (n / 16384) ∷ []
+
+    go : (a b : Bool) → P (length (cond a (n ∷ []) (cond b short long)))
+    go true b = one
+    go false true = two
+    go false false = three
+
+-- A number has at least one byte.
+pub number-long : (n : ℕ) → 1 ≤ length (number-bytes n)
+number-long n = number-sizes (λ (k : ℕ). 1 ≤ k) (omega arith) (omega arith) (omega arith) n
+
+-- A number has at most three bytes.
+pub number-short : (n : ℕ) → length (number-bytes n) ≤ 3
+number-short n = number-sizes (λ (k : ℕ). k ≤ 3) (omega arith) (omega arith) (omega arith) n
+
+-- Bytes put in, and others after them.
+pub sets-append : (l : List ℕ) (i : ℕ) (xs ys : List ℕ) → sets l i (xs ++ ys) ≡ sets (sets l i xs) (i + length xs) ys
+sets-append l i [] ys = rw (add-zero i)
+sets-append l i (x ∷ xs) ys =
+    let e : suc i + length xs ≡ i + suc (length xs) = omega arith in
+    sets-append (set l i x) (suc i) xs ys ∙ rw e
+
+-- Bytes put in at the start.
+pub sets-whole : (l vs : List ℕ) → length vs ≤ length l → sets l 0 vs ≡ over vs l
+sets-whole l vs h = sets-eq vs l 0 (rw (zero-add (length vs)) h) ∙ rw (zero-add (length vs))
+
+-- The bytes of the arcs from index i on.
+abbrev pub rest-bytes : ℕ → List ℕ → List ℕ → List ℕ
+rest-bytes i ts hs = arcs-bytes (arcs-of (drop i ts) (drop i hs))
+
+-- They are those of the arc i, and then the rest.
+pub rest-cons : (i : ℕ) (ts hs : List ℕ) → i < length ts → i < length hs
+    → rest-bytes i ts hs ≡ number-bytes (getD ts i 0) ++ (number-bytes (getD hs i 0) ++ rest-bytes (i + 1) ts hs)
+unfolding arcs-of zipWith arcs-bytes arc-bytes
+rest-cons i ts hs p q =
+    let rest = arcs-bytes (arcs-of (drop (suc i) ts) (drop (suc i) hs)) in
+    rw (add-one, drop-cons ts i 0, drop-cons hs i 0)
+    (append-assoc (number-bytes (getD ts i 0)) (number-bytes (getD hs i 0)) rest)
+
+-- Their length.
+pub rest-length : (i : ℕ) (ts hs : List ℕ) → i < length ts → i < length hs
+    → length (rest-bytes i ts hs)
+    ≡ length (number-bytes (getD ts i 0)) + length (number-bytes (getD hs i 0)) + length (rest-bytes (i + 1) ts hs)
+rest-length i ts hs p q = rw (rest-cons i ts hs p q) (simp length-append (omega arith))
+
+-- A turn of the loop that puts them in: a tail at one place, a head at the next.
+pub rest-turn : (file : List ℕ) (i at : ℕ) (ts hs : List ℕ) (mid next : ℕ) (f f' : List ℕ)
+    → i < length ts → i < length hs
+    → mid ≡ at + length (number-bytes (getD ts i 0)) → f ≡ sets file at (number-bytes (getD ts i 0))
+    → next ≡ mid + length (number-bytes (getD hs i 0)) → f' ≡ sets f mid (number-bytes (getD hs i 0))
+    → sets file at (rest-bytes i ts hs) ≡ sets f' next (rest-bytes (i + 1) ts hs)
+rest-turn file i at ts hs mid next f f' p q m e n e' =
+    rw (rest-cons i ts hs p q, sets-append, sets-append, e', n, e, m)
+
+-- Past the last arc there are none.
+pub rest-none : (i : ℕ) (ts hs : List ℕ) → length ts ≤ i → rest-bytes i ts hs ≡ []
+unfolding arcs-of zipWith arcs-bytes
+rest-none i ts hs h = rw (drop-of-length-le ts h)

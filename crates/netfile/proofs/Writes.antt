@@ -1,0 +1,98 @@
+-- A network as it is written, and what writing it promises.
+--   written-length    the length of the file;   written-put   the file, put in part by part
+--   arcs-short        an arc is written as at most six bytes
+--   trouble-stays, trouble-room, trouble-none   the first trouble: of the network, then of the room
+--   write-bad, write-done    the answer, and the list that it leaves
+-- Assumes nothing.
+use Prim.Native.Nat.{ℕ, suc, _+_, _*_, _≤_, _<_}
+use native.Mathlib.Omega.{arith}
+use mathlib.Core.Path.{_≡_, refl, sym, ap, _∙_}
+use mathlib.Core.List.{List, [], _∷_, _++_, zipWith}
+use mathlib.Core.Option.{none, some}
+use lib.ListN.{length, length-append}
+use lib.Seq.{sets}
+use borrow.Author.Tests.{lt-ltb, le-ltb}
+use Rattle.rules.specs.Answers.{Refusal, trouble-refusal}
+use Rattle.rules.specs.Lists.{over}
+use Rattle.rules.specs.Network.{Arc}
+use Rattle.rules.specs.Number.{number-bytes, refusal}
+use Rattle.rules.specs.File.{arc-bytes, arcs-bytes, file-bytes}
+use Rattle.rules.specs.Calls.{first-trouble, network-tests, room-test, arcs-of, written, write-trouble, write-says}
+use Rattle.rules.specs.Calls.{write-leaves-file}
+use Rattle.rules.specs.declared.Trouble.{Trouble}
+use Rattle.rules.specs.declared.WriteAnswer.{WriteAnswer}
+use Rattle.tests.proofs.Troubles.{first-trouble-after, first-trouble-stays}
+use Rattle.netfile.specs.Promises.{Write-promise}
+use Rattle.netfile.proofs.Bytes.{number-short, sets-append, sets-whole}
+
+-- An arc is written as at most six bytes.
+pub arcs-short : (es : List Arc) → length (arcs-bytes es) ≤ 6 * length es
+unfolding arcs-bytes arc-bytes
+arcs-short [] = omega arith
+arcs-short (e ∷ es) =
+    let t = number-short (e .tail) in
+    let h = number-short (e .head) in
+    let r = arcs-short es in
+    simp length-append (omega arith)
+
+-- There are as many arcs as tails, where tails and heads pair up.
+pub arcs-of-length : (ts hs : List ℕ) → length ts ≡ length hs → length (arcs-of ts hs) ≡ length ts
+unfolding arcs-of zipWith
+arcs-of-length [] hs e = refl
+arcs-of-length (t ∷ ts) [] e = omega arith
+arcs-of-length (t ∷ ts) (h ∷ hs) e = ap suc (arcs-of-length ts hs (omega arith))
+
+module _ (n : ℕ) (ts hs : List ℕ) (e : length ts ≡ length hs) where
+  -- A network is written as its two counts and its arcs.
+  written-parts : written n ts hs
+      ≡ number-bytes n ++ (number-bytes (length ts) ++ arcs-bytes (arcs-of ts hs))
+  unfolding written file-bytes
+  written-parts = rw (arcs-of-length ts hs e)
+
+  -- The length of the file.
+  pub written-length : length (written n ts hs)
+      ≡ length (number-bytes n) + length (number-bytes (length ts)) + length (arcs-bytes (arcs-of ts hs))
+  written-length = rw written-parts (simp length-append (omega arith))
+
+  -- The file, put in part by part.
+  pub written-put : (file : List ℕ) (at from : ℕ) (f f' f'' : List ℕ) → length (written n ts hs) ≤ length file
+      → at ≡ 0 + length (number-bytes n) → f ≡ sets file 0 (number-bytes n)
+      → from ≡ at + length (number-bytes (length ts)) → f' ≡ sets f at (number-bytes (length ts))
+      → f'' ≡ sets f' from (arcs-bytes (arcs-of ts hs)) → f'' ≡ over (written n ts hs) file
+  written-put file at from f f' f'' h p q p' q' q'' =
+      q'' ∙ sym (rw (← sets-whole file (written n ts hs) h, written-parts, sets-append, sets-append, q', p', q, p))
+
+module _ (n : ℕ) (ts hs file : List ℕ) where
+  -- A trouble of the network is the trouble of writing.
+  pub trouble-stays : (r : Refusal) → first-trouble (network-tests n ts hs) ≡ some r
+      → write-trouble n ts hs file ≡ some r
+  unfolding write-trouble
+  trouble-stays r e =
+      first-trouble-stays (network-tests n ts hs) (room-test (length (written n ts hs)) (length file) ∷ []) e
+
+  module _ (e : first-trouble (network-tests n ts hs) ≡ none) where
+    -- A file that is longer than the lent list has no room.
+    pub trouble-room : length file < length (written n ts hs) → write-trouble n ts hs file ≡ some (refusal 9 0)
+    unfolding write-trouble
+    trouble-room h =
+        first-trouble-after (network-tests n ts hs) (room-test (length (written n ts hs)) (length file) ∷ []) e
+        ∙ rw (lt-ltb (length file) (length (written n ts hs)) h)
+
+    -- Any other has no trouble.
+    pub trouble-none : length (written n ts hs) ≤ length file → write-trouble n ts hs file ≡ none
+    unfolding write-trouble
+    trouble-none h =
+        first-trouble-after (network-tests n ts hs) (room-test (length (written n ts hs)) (length file) ∷ []) e
+        ∙ rw (le-ltb (length file) (length (written n ts hs)) h)
+
+  -- A refusal leaves the list as it came.
+  pub write-bad : (t : Trouble) → write-trouble n ts hs file ≡ some (trouble-refusal t)
+      → Write-promise n ts hs file (WriteAnswer.Refused t) file
+  unfolding write-says write-leaves-file
+  write-bad t e = record { says = rw e; bytes = rw e }
+
+  -- A network without a trouble is written into it.
+  pub write-done : (k : ℕ) (file' : List ℕ) → write-trouble n ts hs file ≡ none → k ≡ length (written n ts hs)
+      → file' ≡ over (written n ts hs) file → Write-promise n ts hs file (WriteAnswer.Done k) file'
+  unfolding write-says write-leaves-file
+  write-done k file' e l w = record { says = rw (e, l); bytes = rw e w }

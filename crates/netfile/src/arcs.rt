@@ -1,0 +1,97 @@
+// The arcs of a network file: one arc, and the pass over all of them that only tests.
+ghost use mathlib.Core.Path.{_≡_};
+ghost use Rattle.rules.specs.File.{zone-at, arc-at, arcs-at};
+ghost use Rattle.netfile.specs.Readings.{number-reading, arc-reading, Scanned};
+use super::number::Cursor;
+use super::number::NumberRead;
+use rules::Kind;
+use rules::Trouble;
+
+// What reading an arc finds: its tail, its head and the next cursor, or the refusal.
+pub enum ArcRead {
+    Arc {
+        tail: usize,
+        head: usize,
+        next: Cursor,
+    },
+    Refused(Trouble),
+}
+
+// What the pass over the arcs finds: the cursor after the last of them, or the first refusal.
+pub enum ScanRead {
+    End(Cursor),
+    Refused(Trouble),
+}
+
+// A zone number, which is below the zone count.
+fn zone(s: &[u8], c: Cursor, zones: usize) -> NumberRead
+    ensures { λ r. ⌜ number-reading r ≡ zone-at (now (s .entry)) zones (c .at) ⌝ }
+{
+    let place = c.at;
+    match c.number(s) {
+        NumberRead::Refused(t) => {
+            return NumberRead::Refused(t);
+        }
+        NumberRead::Number(z, next) => {
+            if zones <= z {
+                return NumberRead::Refused(Trouble {
+                    kind: Kind::Range,
+                    place,
+                });
+            }
+            return NumberRead::Number(z, next);
+        }
+    }
+}
+
+// An arc: its tail, its head, and the two distinct.
+pub fn arc(s: &[u8], c: Cursor, zones: usize) -> ArcRead
+    ensures { λ r. ⌜ arc-reading r ≡ arc-at (now (s .entry)) zones (c .at) ⌝ }
+{
+    match zone(s, c, zones) {
+        NumberRead::Refused(t) => {
+            return ArcRead::Refused(t);
+        }
+        NumberRead::Number(tail, mid) => {
+            let place = mid.at;
+            match zone(s, mid, zones) {
+                NumberRead::Refused(t) => {
+                    return ArcRead::Refused(t);
+                }
+                NumberRead::Number(head, next) => {
+                    if tail == head {
+                        return ArcRead::Refused(Trouble {
+                            kind: Kind::SelfArc,
+                            place,
+                        });
+                    }
+                    return ArcRead::Arc { tail, head, next };
+                }
+            }
+        }
+    }
+}
+
+// The arcs of a file, one after the other: where they end, or the first refusal. Nothing is stored.
+pub fn scan(s: &[u8], from: Cursor, zones: usize, arcs: usize) -> ScanRead
+    ensures { λ r. ⌜ Scanned r (arcs-at (now (s .entry)) zones arcs (from .at)) ⌝ }
+{
+    let mut c = from;
+    let mut k = 0;
+    while k < arcs {
+        match arc(s, c, zones) {
+            ArcRead::Refused(t) => {
+                return ScanRead::Refused(t);
+            }
+            ArcRead::Arc {
+                tail: _,
+                head: _,
+                next,
+            } => {
+                c = next;
+            }
+        }
+        k += 1;
+    }
+    ScanRead::End(c)
+}

@@ -1,0 +1,84 @@
+// A number of a network file: a byte 0 to 127 ends it, and 128 to 255 says that another group of seven bits follows.
+ghost use mathlib.Core.Path.{_≡_};
+ghost use Prim.Native.Nat.{_+_, _<_};
+ghost use lib.ListN.{length};
+ghost use Rattle.rules.specs.Number.{number-at, second-group, third-group};
+ghost use Rattle.netfile.specs.Readings.{number-reading};
+use rules::Kind;
+use rules::Trouble;
+
+// The reading place. It moves forward by one number at a time.
+pub struct Cursor {
+    pub at: usize,
+}
+
+// What reading a number finds: the number with the next cursor, or the refusal.
+pub enum NumberRead {
+    Number(usize, Cursor),
+    Refused(Trouble),
+}
+
+// A refusal of a number.
+fn refused(kind: Kind, place: usize) -> NumberRead
+    ensures { λ r. ⌜ r ≡ NumberRead.Refused (record { kind = kind; place = place }) ⌝ }
+{
+    NumberRead::Refused(Trouble { kind, place })
+}
+
+// A byte as a number.
+fn wide(b: u8) -> usize
+    ensures { λ r. ⌜ (r ≡ b) × (r < 256) ⌝ }
+{
+    b as usize
+}
+
+impl Cursor {
+    // The number at the cursor.
+    pub fn number(self, s: &[u8]) -> NumberRead
+        ensures { λ r. ⌜ number-reading r ≡ number-at (now (s .entry)) (self .at) ⌝ }
+    {
+        let at = self.at;
+        if s.len() <= at {
+            return refused(Kind::Short, s.len());
+        }
+        let b = s[at];
+        match b {
+            0..=127 => NumberRead::Number(wide(b), Cursor { at: at + 1 }),
+            128..=255 => second(s, at, wide(b) - 128),
+        }
+    }
+}
+
+// The second group of the number at `at`, after one that is worth `low`.
+fn second(s: &[u8], at: usize, low: usize) -> NumberRead
+    requires { ⌜ (low < 128) × (at < length (now s)) ⌝ }
+    ensures { λ r. ⌜ number-reading r ≡ second-group (now (s .entry)) at low ⌝ }
+{
+    let here = at + 1;
+    if s.len() <= here {
+        return refused(Kind::Short, s.len());
+    }
+    let b = s[here];
+    match b {
+        0 => refused(Kind::Loose, at),
+        1..=127 => NumberRead::Number(low + 128 * wide(b), Cursor { at: at + 2 }),
+        128..=255 => third(s, at, low + 128 * (wide(b) - 128)),
+    }
+}
+
+// The third group of the number that starts at `start`, after two that are worth `low`.
+fn third(s: &[u8], start: usize, low: usize) -> NumberRead
+    requires { ⌜ (low < 16384) × (start + 1 < length (now s)) ⌝ }
+    ensures { λ r. ⌜ number-reading r ≡ third-group (now (s .entry)) start low ⌝ }
+{
+    let here = start + 2;
+    if s.len() <= here {
+        return refused(Kind::Short, s.len());
+    }
+    let b = s[here];
+    match b {
+        0 => refused(Kind::Loose, start),
+        1..=127 => NumberRead::Number(low + 16384 * wide(b), Cursor { at: start + 3 }),
+        128..=255 => refused(Kind::Long, start),
+    }
+}
