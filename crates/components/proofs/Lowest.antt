@@ -18,10 +18,10 @@ use Rattle.rows.specs.Rows.{Entry, rows-of}
 use Rattle.rows.specs.Arranged.{Between, Arranged-at}
 use Rattle.rows.proofs.Zeros.{same?, below?}
 use Rattle.rows.proofs.ArrangedLaws.{run-reach, reach-run}
-use Rattle.theory.proofs.Lists.{map-in}
-use Rattle.theory.proofs.Counting.{Distinct, answers-count, ascending-distinct, distinct-map}
-use Rattle.theory.proofs.Ascending.{run-in, in-run, run-ascending, run-length, network-proper}
-use Rattle.theory.proofs.Components.{Together, together-sym, name-together, name-lowest}
+use Rattle.theory.proofs.Ground.Lists.{map-in}
+use Rattle.theory.proofs.Ground.Counting.{Distinct, answers-count, ascending-distinct, distinct-map}
+use Rattle.theory.proofs.Ground.Ascending.{run-in, in-run, run-ascending, run-length, network-proper}
+use Rattle.theory.proofs.Reaching.Components.{Together, together-sym, name-together, name-lowest}
 use Rattle.components.specs.Pass.{Mutual}
 
 -- x is the lowest zone such that each of x and v leads to the other

@@ -20,8 +20,8 @@ use Rattle.rows.proofs.ArrangedLaws.{arranged-sound, arranged-fits, arranged-en
 use Rattle.order.specs.Memory.{cell, Ready, Kept, Finished}
 use Rattle.rows.proofs.Regions.{at-kept, at-below}
 use Rattle.order.proofs.Regions.{take-on, drop-on}
-use Rattle.theory.proofs.Components.{name-is-name, names-zone, names-distinct}
-use Rattle.theory.proofs.Ascending.{run-in}
+use Rattle.theory.proofs.Reaching.Components.{name-is-name, names-zone, names-distinct}
+use Rattle.theory.proofs.Ground.Ascending.{run-in}
 use Rattle.components.specs.Gather.{Queued}
 use Rattle.components.specs.Roots.{Laid, Given, Collected}
 use Rattle.components.specs.Names.{Nameable, Named}

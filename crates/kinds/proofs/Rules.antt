@@ -19,11 +19,11 @@ use Rattle.rules.specs.Network.{Arc, Network, network-of, Proper}
 use Rattle.rules.specs.Components.{together, name, is-name, names, entered, left, sources, sinks, alone}
 use Rattle.rows.specs.Marks.{one}
 use Rattle.order.specs.Memory.{cell}
-use Rattle.theory.proofs.Bools.{bool-cases, bool-agree}
-use Rattle.theory.proofs.Lists.{any-agree, keep-agree, in-keep}
-use Rattle.theory.proofs.Ascending.{run-in, in-run, network-proper}
-use Rattle.theory.proofs.Components.{together-sound, together-complete, name-in, name-agree, name-apart}
-use Rattle.theory.proofs.Components.{names-zone}
+use Rattle.theory.proofs.Ground.Bools.{bool-cases, bool-agree}
+use Rattle.theory.proofs.Ground.Lists.{any-agree, keep-agree, in-keep}
+use Rattle.theory.proofs.Ground.Ascending.{run-in, in-run, network-proper}
+use Rattle.theory.proofs.Reaching.Components.{together-sound, together-complete, name-in, name-agree, name-apart}
+use Rattle.theory.proofs.Reaching.Components.{names-zone}
 use Rattle.rules.specs.Calls.{arcs-of}
 use Rattle.rows.proofs.ArcRows.{arcs-length}
 use Rattle.kinds.specs.Kinds.{comes, goes, own-kind, Markable, Marking, Nameful, Kinds}

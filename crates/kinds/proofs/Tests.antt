@@ -16,10 +16,10 @@ use lib.ListN.{length}
 use borrow.Author.Tests.{eq-eqb, ne-eqb}
 use Rattle.rules.specs.Lists.{any, keep, run}
 use Rattle.rows.specs.Marks.{one}
-use Rattle.theory.proofs.Bools.{bool-cases}
-use Rattle.theory.proofs.Lists.{any-hit, any-miss, keep-hit, keep-miss}
-use Rattle.theory.proofs.Counting.{keep-length}
-use Rattle.theory.proofs.Ascending.{run-length}
+use Rattle.theory.proofs.Ground.Bools.{bool-cases}
+use Rattle.theory.proofs.Ground.Lists.{any-hit, any-miss, keep-hit, keep-miss}
+use Rattle.theory.proofs.Ground.Counting.{keep-length}
+use Rattle.theory.proofs.Ground.Ascending.{run-length}
 use Rattle.order.specs.Memory.{cell}
 use Rattle.kinds.specs.Kinds.{raised, own-kind}
 

@@ -8,7 +8,7 @@ use mathlib.Core.Path.{_≡_, sym, _∙_}
 use mathlib.Core.List.{List}
 use Rattle.rules.specs.declared.StrongAnswer.{StrongAnswer}
 use Rattle.rules.specs.declared.ReachAnswer.{ReachAnswer}
-use Rattle.theory.proofs.AnswerLaws.{strong-told-once, reach-told-once}
+use Rattle.theory.proofs.Files.AnswerLaws.{strong-told-once, reach-told-once}
 use Rattle.network.specs.Promises.{Strong-promise, Reach-promise}
 
 -- any two outcomes of STRONG are equal: the answer and the work memory

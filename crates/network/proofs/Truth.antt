@@ -16,9 +16,9 @@ use Rattle.rules.specs.Network.{Reach, reaches, strong}
 use Rattle.rules.specs.Calls.{arcs-of, handed}
 use Rattle.tests.specs.Tested.{Fine}
 use Rattle.tests.proofs.Fine.{fine-proper}
-use Rattle.theory.proofs.Bools.{bool-agree, and-true, true-and, false-not}
-use Rattle.theory.proofs.Ascending.{run-in, in-run}
-use Rattle.theory.proofs.Reach.{reach-trans, reaches-sound, reaches-complete, strong-sound, strong-complete}
+use Rattle.theory.proofs.Ground.Bools.{bool-agree, and-true, true-and, false-not}
+use Rattle.theory.proofs.Ground.Ascending.{run-in, in-run}
+use Rattle.theory.proofs.Reaching.Reach.{reach-trans, reaches-sound, reaches-complete, strong-sound, strong-complete}
 use Rattle.rows.specs.Rows.{Entry, Run, rows-of}
 use Rattle.rows.specs.Marks.{Marked}
 use Rattle.rows.specs.Work.{starts-at, rows-at, turned-starts-at, turned-rows-at}

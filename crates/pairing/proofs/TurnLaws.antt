@@ -17,9 +17,9 @@ use lib.ListN.{List·getD-append, getD-replicate}
 use lib.Seq.{getD-append-add, getD-drop, drop-drop, drop-append-add}
 use Rattle.rules.specs.Lists.{cleared}
 use Rattle.rules.specs.Network.{Arc, network-of, Proper, reaches}
-use Rattle.theory.proofs.Bools.{false-unless}
-use Rattle.theory.proofs.Reach.{reaches-sound, reaches-complete}
-use Rattle.theory.proofs.Ascending.{network-proper}
+use Rattle.theory.proofs.Ground.Bools.{false-unless}
+use Rattle.theory.proofs.Reaching.Reach.{reaches-sound, reaches-complete}
+use Rattle.theory.proofs.Ground.Ascending.{network-proper}
 use Rattle.rows.specs.Marks.{Marked}
 use Rattle.rows.specs.Regions.{part, Holds}
 use Rattle.rows.specs.Arranged.{Between, Arranged-at}

@@ -13,9 +13,9 @@ use Rattle.rules.specs.Network.{Arc, _⟶_, Network, Reach, same, step, Proper,
 use Rattle.rules.specs.Components.{together, is-name}
 use Rattle.rules.specs.Lists.{any}
 use Rattle.rules.specs.Skeleton.{joined, between, crosses}
-use Rattle.theory.proofs.Bools.{bool-cases, bool-agree, true-not-false, and-true, true-and}
-use Rattle.theory.proofs.Reach.{reach-arc, reach-trans, reaches-sound, reaches-complete}
-use Rattle.theory.proofs.Components.{
+use Rattle.theory.proofs.Ground.Bools.{bool-cases, bool-agree, true-not-false, and-true, true-and}
+use Rattle.theory.proofs.Reaching.Reach.{reach-arc, reach-trans, reaches-sound, reaches-complete}
+use Rattle.theory.proofs.Reaching.Components.{
   Together,
   together-sound,
   together-complete,
@@ -23,7 +23,7 @@ use Rattle.theory.proofs.Components.{
   together-sym,
   together-trans,
 }
-use Rattle.theory.proofs.SkeletonLaws.{Between, Joined, joined-true, true-joined, not-apart, clear-true}
+use Rattle.theory.proofs.Skeletons.SkeletonLaws.{Between, Joined, joined-true, true-joined, not-apart, clear-true}
 
 -- two zones are together or not
 pub together-cases : {N : Network} → Proper N → (a b : ℕ) → Together N a b ⊎ (Together N a b → ⊥)

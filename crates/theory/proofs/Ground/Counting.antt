@@ -29,7 +29,7 @@ use native.Mathlib.Omega.{arith}
 use lib.ListN.{length, drop}
 use Rattle.rules.specs.Lists.{keep}
 use Rattle.rules.specs.Network.{Above, Ascending}
-use Rattle.theory.proofs.Lists.{keep-in}
+use Rattle.theory.proofs.Ground.Lists.{keep-in}
 
 -- no element stands twice in the list
 abbrev pub Distinct : {A : Type 0} → List A → Type 0

@@ -30,9 +30,9 @@ use mathlib.Core.List.{
 use native.Mathlib.Omega.{arith}
 use lib.ListN.{length, length-append, length-map}
 use Rattle.rules.specs.Plan.{Couple, Ordering, Picked, pick, with-lone, with-pair, pairing}
-use Rattle.theory.proofs.Bools.{true-not-false}
-use Rattle.theory.proofs.Counting.{Distinct}
-use Rattle.theory.proofs.Shuffled.{
+use Rattle.theory.proofs.Ground.Bools.{true-not-false}
+use Rattle.theory.proofs.Ground.Counting.{Distinct}
+use Rattle.theory.proofs.Ground.Shuffled.{
   Taken,
   here,
   there,
@@ -48,7 +48,7 @@ use Rattle.theory.proofs.Shuffled.{
   shuffled-distinct,
   distinct-shuffled,
 }
-use Rattle.theory.proofs.Augment.{Properties, paired-sources, paired-sinks, sources-of, sinks-of}
+use Rattle.theory.proofs.Planning.Augment.{Properties, paired-sources, paired-sinks, sources-of, sinks-of}
 
 -- what a pick says by its answer: no sink passes, or one that passes is taken out
 abbrev Told : (ℕ → Bool) → List ℕ → Option Picked → Type 0

@@ -16,8 +16,8 @@ use lib.ListN.{length, length-map}
 use Rattle.rules.specs.Network.{Arc, Network, added, Proper, Strong, reaches, strong}
 use Rattle.rules.specs.Components.{names, sources, sinks, alone}
 use Rattle.rules.specs.Plan.{Link, link-arc, with-links, turned, turned-link, is-upright, ordering, upright-plan, plan, plan-need}
-use Rattle.theory.proofs.Bools.{bool-cases}
-use Rattle.theory.proofs.KindLaws.{
+use Rattle.theory.proofs.Ground.Bools.{bool-cases}
+use Rattle.theory.proofs.Reaching.KindLaws.{
   source-is,
   sink-is,
   alone-is,
@@ -27,9 +27,9 @@ use Rattle.theory.proofs.KindLaws.{
   sinks-distinct,
   alone-distinct,
 }
-use Rattle.theory.proofs.Few.{length-none}
-use Rattle.theory.proofs.KindCounts.{no-source-no-sink, weak-kinds}
-use Rattle.theory.proofs.Turned.{
+use Rattle.theory.proofs.Ground.Few.{length-none}
+use Rattle.theory.proofs.Reaching.KindCounts.{no-source-no-sink, weak-kinds}
+use Rattle.theory.proofs.Reaching.Turned.{
   turned-proper,
   turned-names,
   turned-sources,
@@ -37,16 +37,16 @@ use Rattle.theory.proofs.Turned.{
   turned-alone,
   turned-strong,
 }
-use Rattle.theory.proofs.Shuffled.{shuffled-in, in-shuffled}
-use Rattle.theory.proofs.Augment.{Tied, sources-of, sinks-of}
-use Rattle.theory.proofs.Pairing.{
+use Rattle.theory.proofs.Ground.Shuffled.{shuffled-in, in-shuffled}
+use Rattle.theory.proofs.Planning.Augment.{Tied, sources-of, sinks-of}
+use Rattle.theory.proofs.Planning.Pairing.{
   made-sources,
   made-sinks,
   made-sinks-distinct,
   made-source-count,
   made-sink-count,
 }
-use Rattle.theory.proofs.PlanStrong.{
+use Rattle.theory.proofs.Planning.PlanStrong.{
   ordering-made,
   pairs-some,
   plan-of-strong,
@@ -55,8 +55,8 @@ use Rattle.theory.proofs.PlanStrong.{
   upright-true,
   upright-false,
 }
-use Rattle.theory.proofs.OrderingLinks.{Joins, Clear, Enough, enough-one, links-count, links-join}
-use Rattle.theory.proofs.Fewest.{need-fewest, strong-needs-none, weak-need}
+use Rattle.theory.proofs.Planning.OrderingLinks.{Joins, Clear, Enough, enough-one, links-count, links-join}
+use Rattle.theory.proofs.Planning.Fewest.{need-fewest, strong-needs-none, weak-need}
 
 module _ {N : Network} (P : Proper N) where
   -- the stations of the network's ordering are names, with no sink and no component alone twice

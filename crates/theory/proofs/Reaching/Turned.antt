@@ -15,11 +15,11 @@ use Rattle.rules.specs.Lists.{keep}
 use Rattle.rules.specs.Network.{Arc, _⟶_, Network, Proper, Reach, same, step, reaches, strong}
 use Rattle.rules.specs.Components.{together, name, is-name, names, left, entered, sources, sinks, alone}
 use Rattle.rules.specs.Plan.{turned}
-use Rattle.theory.proofs.Bools.{bool-agree}
-use Rattle.theory.proofs.Lists.{map-in, in-map, any-map, any-agree, keep-agree, first-agree}
-use Rattle.theory.proofs.Reach.{arc-is, reach-arc, reach-trans, reaches-sound, reaches-complete}
-use Rattle.theory.proofs.Reach.{strong-sound, strong-complete}
-use Rattle.theory.proofs.Components.{Together, together-sound, together-complete}
+use Rattle.theory.proofs.Ground.Bools.{bool-agree}
+use Rattle.theory.proofs.Ground.Lists.{map-in, in-map, any-map, any-agree, keep-agree, first-agree}
+use Rattle.theory.proofs.Reaching.Reach.{arc-is, reach-arc, reach-trans, reaches-sound, reaches-complete}
+use Rattle.theory.proofs.Reaching.Reach.{strong-sound, strong-complete}
+use Rattle.theory.proofs.Reaching.Components.{Together, together-sound, together-complete}
 
 -- the arc turned round
 abbrev turned-end : Arc → Arc

@@ -17,9 +17,9 @@ use lib.Dec.{eqb}
 use borrow.Author.Tests.{eqb-true, eq-eqb}
 use Rattle.rules.specs.Lists.{every}
 use Rattle.rules.specs.Network.{Arc, _⟶_, Network, Proper, Reach, same, step, Strong, has-arc, via, reaches, strong}
-use Rattle.theory.proofs.Bools.{and-true, true-and, and-then, and-then-true, true-and-then}
-use Rattle.theory.proofs.Bools.{or-else-true, true-or-else}
-use Rattle.theory.proofs.Lists.{any-true, true-any, every-true, true-every}
+use Rattle.theory.proofs.Ground.Bools.{and-true, true-and, and-then, and-then-true, true-and-then}
+use Rattle.theory.proofs.Ground.Bools.{or-else-true, true-or-else}
+use Rattle.theory.proofs.Ground.Lists.{any-true, true-any, every-true, true-every}
 
 -- an arc is a reach
 pub reach-arc : {N : Network} {a b : ℕ} → In (a ⟶ b) (N .arcs) → Reach N a b

@@ -15,9 +15,9 @@ use native.Mathlib.Decide.{ℕ-discrete}
 use lib.ListN.{length}
 use Rattle.rules.specs.Lists.{keep, first, run}
 use Rattle.rules.specs.Network.{Above, Ascending, Arc, _⟶_, Proper, network-of}
-use Rattle.theory.proofs.Bools.{bool-cases, true-not-false}
-use Rattle.theory.proofs.Lists.{first-hit, first-miss, keep-hit, keep-miss}
-use Rattle.theory.proofs.Counting.{above-less}
+use Rattle.theory.proofs.Ground.Bools.{bool-cases, true-not-false}
+use Rattle.theory.proofs.Ground.Lists.{first-hit, first-miss, keep-hit, keep-miss}
+use Rattle.theory.proofs.Ground.Counting.{above-less}
 
 -- a list that ascends from above a number ascends
 pub above-ascending : (a : ℕ) (xs : List ℕ) → Above a xs → Ascending xs

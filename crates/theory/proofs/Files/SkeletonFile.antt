@@ -15,11 +15,11 @@ use Rattle.rules.specs.Lists.{run}
 use Rattle.rules.specs.Network.{Network, network-of, Proper, Reach}
 use Rattle.rules.specs.Skeleton.{skeleton}
 use Rattle.rules.specs.File.{Given, Acceptable, file-bytes}
-use Rattle.theory.proofs.Ascending.{run-in, in-run, network-proper}
-use Rattle.theory.proofs.SkeletonLaws.{skeleton-ends, skeleton-apart}
-use Rattle.theory.proofs.SkeletonSame.{skeleton-agree, skeleton-decides}
-use Rattle.theory.proofs.SkeletonLeast.{skeleton-short}
-use Rattle.theory.proofs.FileLaws.{same-file-same-network}
+use Rattle.theory.proofs.Ground.Ascending.{run-in, in-run, network-proper}
+use Rattle.theory.proofs.Skeletons.SkeletonLaws.{skeleton-ends, skeleton-apart}
+use Rattle.theory.proofs.Skeletons.SkeletonSame.{skeleton-agree, skeleton-decides}
+use Rattle.theory.proofs.Skeletons.SkeletonLeast.{skeleton-short}
+use Rattle.theory.proofs.Files.FileLaws.{same-file-same-network}
 
 -- the network that a file holds
 abbrev pub network-given : Given → Network

@@ -21,9 +21,9 @@ use Rattle.rules.specs.Lists.{first}
 use Rattle.rules.specs.Network.{Arc, _⟶_, Network, Reach, same, step, Proper}
 use Rattle.rules.specs.Components.{together, name}
 use Rattle.rules.specs.Skeleton.{pairs-of, follows, in-skeleton, skeleton}
-use Rattle.theory.proofs.Bools.{bool-cases, false-unless}
-use Rattle.theory.proofs.Lists.{first-true}
-use Rattle.theory.proofs.Counting.{
+use Rattle.theory.proofs.Ground.Bools.{bool-cases, false-unless}
+use Rattle.theory.proofs.Ground.Lists.{first-true}
+use Rattle.theory.proofs.Ground.Counting.{
   Distinct,
   answers-count,
   distinct-append,
@@ -31,8 +31,8 @@ use Rattle.theory.proofs.Counting.{
   keep-distinct,
   ascending-distinct,
 }
-use Rattle.theory.proofs.Reach.{reach-arc, reach-trans}
-use Rattle.theory.proofs.Components.{
+use Rattle.theory.proofs.Reaching.Reach.{reach-arc, reach-trans}
+use Rattle.theory.proofs.Reaching.Components.{
   Together,
   together-sound,
   together-complete,
@@ -40,7 +40,7 @@ use Rattle.theory.proofs.Components.{
   together-trans,
   name-agree,
 }
-use Rattle.theory.proofs.SkeletonLaws.{
+use Rattle.theory.proofs.Skeletons.SkeletonLaws.{
   Next,
   Follows,
   Crosses,
@@ -53,7 +53,7 @@ use Rattle.theory.proofs.SkeletonLaws.{
   skeleton-ends,
   skeleton-kinds,
 }
-use Rattle.theory.proofs.SkeletonSame.{skeleton-agree}
+use Rattle.theory.proofs.Skeletons.SkeletonSame.{skeleton-agree}
 
 -- the rows of two lists without repeats have no arc twice
 rows-distinct : (ts hs : List ℕ) → Distinct ts → Distinct hs → Distinct (flatMap (λ a. map (λ b. a ⟶ b) hs) ts)

@@ -14,12 +14,12 @@ use Rattle.rules.specs.Lists.{any, keep}
 use Rattle.rules.specs.Network.{Arc, Network, Reach, Proper}
 use Rattle.rules.specs.Components.{together, is-name}
 use Rattle.rules.specs.Skeleton.{pairs-of, higher, follows, between, crosses, in-skeleton, skeleton, skeleton-of}
-use Rattle.theory.proofs.Bools.{or-else}
-use Rattle.theory.proofs.Lists.{keep-agree}
-use Rattle.theory.proofs.SkeletonLaws.{pairs-in}
-use Rattle.theory.proofs.Gap.{bridges, crosses-reach}
-use Rattle.theory.proofs.SkeletonReach.{skeleton-proper, skeleton-reach}
-use Rattle.theory.proofs.Alike.{
+use Rattle.theory.proofs.Ground.Bools.{or-else}
+use Rattle.theory.proofs.Ground.Lists.{keep-agree}
+use Rattle.theory.proofs.Skeletons.SkeletonLaws.{pairs-in}
+use Rattle.theory.proofs.Skeletons.Gap.{bridges, crosses-reach}
+use Rattle.theory.proofs.Skeletons.SkeletonReach.{skeleton-proper, skeleton-reach}
+use Rattle.theory.proofs.Skeletons.Alike.{
   Alike,
   in-along,
   reaches-alike,

@@ -18,9 +18,9 @@ use borrow.Author.Tests.{ltb-false, lt-ltb}
 use Rattle.rules.specs.Number.{Reading, got, bad, number-at}
 use Rattle.rules.specs.File.{Given, zone-at, arc-at, arcs-at, body-at, counted-at, file-at}
 use Rattle.rules.specs.Text.{printed, plan-lines, refusal-line}
-use Rattle.theory.proofs.Readings.{then-alike, unless-alike}
-use Rattle.theory.proofs.NumberLaws.{number-next, number-alike}
-use Rattle.theory.proofs.FileLaws.{zone-got, or-false, arc-end, arcs-end}
+use Rattle.theory.proofs.Files.Readings.{then-alike, unless-alike}
+use Rattle.theory.proofs.Files.NumberLaws.{number-next, number-alike}
+use Rattle.theory.proofs.Files.FileLaws.{zone-got, or-false, arc-end, arcs-end}
 
 module _ (s t : List ℕ) (k : ℕ) (long-s : k ≤ length s) (long-t : k ≤ length t)
     (same : (i : ℕ) → i < k → getD s i 0 ≡ getD t i 0) where

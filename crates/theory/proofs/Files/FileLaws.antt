@@ -23,11 +23,11 @@ use Rattle.rules.specs.Network.{Arc}
 use Rattle.rules.specs.Number.{number-bytes, got, number-at}
 use Rattle.rules.specs.File.{Given, Acceptable, arc-bytes, arcs-bytes, file-bytes}
 use Rattle.rules.specs.File.{zone-at, arc-at, arcs-at, body-at, counted-at, file-at}
-use Rattle.theory.proofs.Readings.{unless-got, then-got, got-value, got-place, Stands}
-use Rattle.theory.proofs.Readings.{stands-nothing, stands-whole, stands-join, stands-left, stands-right}
-use Rattle.theory.proofs.Readings.{stands-all}
-use Rattle.theory.proofs.NumberLaws.{Bytes, number-stands, stands-number, number-next}
-use Rattle.theory.proofs.NumberLaws.{bytes-none, bytes-join, number-bytes-bytes}
+use Rattle.theory.proofs.Files.Readings.{unless-got, then-got, got-value, got-place, Stands}
+use Rattle.theory.proofs.Files.Readings.{stands-nothing, stands-whole, stands-join, stands-left, stands-right}
+use Rattle.theory.proofs.Files.Readings.{stands-all}
+use Rattle.theory.proofs.Files.NumberLaws.{Bytes, number-stands, stands-number, number-next}
+use Rattle.theory.proofs.Files.NumberLaws.{bytes-none, bytes-join, number-bytes-bytes}
 
 -- the arc e is between two different zones of n
 abbrev pub Sound : ℕ → Arc → Type 0

@@ -14,11 +14,11 @@ use native.Mathlib.Omega.{arith}
 use borrow.Author.Tests.{eqb-true, eq-eqb}
 use Rattle.rules.specs.Network.{Network, Proper, Reach, Ascending, reaches}
 use Rattle.rules.specs.Components.{together, name, is-name, names}
-use Rattle.theory.proofs.Bools.{and-then-true, true-and-then}
-use Rattle.theory.proofs.Lists.{first-true, keep-in, in-keep}
-use Rattle.theory.proofs.Ascending.{first-lowest, keep-ascending}
-use Rattle.theory.proofs.Counting.{Distinct, ascending-distinct}
-use Rattle.theory.proofs.Reach.{reach-refl, reach-trans, reach-zone, reaches-sound, reaches-complete}
+use Rattle.theory.proofs.Ground.Bools.{and-then-true, true-and-then}
+use Rattle.theory.proofs.Ground.Lists.{first-true, keep-in, in-keep}
+use Rattle.theory.proofs.Ground.Ascending.{first-lowest, keep-ascending}
+use Rattle.theory.proofs.Ground.Counting.{Distinct, ascending-distinct}
+use Rattle.theory.proofs.Reaching.Reach.{reach-refl, reach-trans, reach-zone, reaches-sound, reaches-complete}
 
 -- a and b are in one component: each reaches the other
 abbrev pub Together : Network → ℕ → ℕ → Type 0

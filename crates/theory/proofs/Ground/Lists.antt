@@ -13,7 +13,7 @@ use mathlib.Core.Bool.{Bool, true, false, false≢true, true≢false}
 use mathlib.Core.List.{List, [], _∷_, map, List·Memᴰ as In, List·Memᴰ·head, List·Memᴰ·tail, List·Memᴰ·cases-cons}
 use mathlib.Core.List.{Memᴰ·cast}
 use Rattle.rules.specs.Lists.{keep, any, every, first}
-use Rattle.theory.proofs.Bools.{bool-cases, true-not-false, false-unless}
+use Rattle.theory.proofs.Ground.Bools.{bool-cases, true-not-false, false-unless}
 
 module _ {A : Type 0} (p : A → Bool) where
   -- the test `any` stops at an element that passes

@@ -13,10 +13,10 @@ use Rattle.rules.specs.Lists.{any, every, keep, first}
 use Rattle.rules.specs.Network.{Network, Reach, Proper, reaches, strong}
 use Rattle.rules.specs.Components.{together, name, is-name, names}
 use Rattle.rules.specs.Plan.{turned}
-use Rattle.theory.proofs.Bools.{bool-agree, and-then}
-use Rattle.theory.proofs.Lists.{any-agree, every-agree, keep-agree, first-agree}
-use Rattle.theory.proofs.Reach.{reaches-sound, reaches-complete}
-use Rattle.theory.proofs.Turned.{turned-proper, turned-reach, reach-turned}
+use Rattle.theory.proofs.Ground.Bools.{bool-agree, and-then}
+use Rattle.theory.proofs.Ground.Lists.{any-agree, every-agree, keep-agree, first-agree}
+use Rattle.theory.proofs.Reaching.Reach.{reaches-sound, reaches-complete}
+use Rattle.theory.proofs.Reaching.Turned.{turned-proper, turned-reach, reach-turned}
 
 -- two networks as every call accepts, with the same zones and the same reach
 pub record Alike (M N : Network) : Type 0 where

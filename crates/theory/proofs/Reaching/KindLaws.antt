@@ -18,14 +18,14 @@ use borrow.Author.Tests.{not-true}
 use Rattle.rules.specs.Lists.{any}
 use Rattle.rules.specs.Network.{Arc, _⟶_, Network, Proper, Reach, same, step, Ascending}
 use Rattle.rules.specs.Components.{together, names, left, entered, sources, sinks, alone, inner}
-use Rattle.theory.proofs.Bools.{bool-cases, bool-agree, and-true, true-and, true-not-false, true-unless}
-use Rattle.theory.proofs.Bools.{false-unless, false-not}
-use Rattle.theory.proofs.Lists.{any-true, true-any, keep-in, in-keep}
-use Rattle.theory.proofs.Components.{Together, together-sound, together-complete, together-refl, together-sym}
-use Rattle.theory.proofs.Components.{together-trans, names-ascending}
-use Rattle.theory.proofs.Counting.{Distinct, ascending-distinct}
-use Rattle.theory.proofs.Ascending.{keep-ascending}
-use Rattle.theory.proofs.Turned.{turned-proper, turned-left, turned-one, reach-turned}
+use Rattle.theory.proofs.Ground.Bools.{bool-cases, bool-agree, and-true, true-and, true-not-false, true-unless}
+use Rattle.theory.proofs.Ground.Bools.{false-unless, false-not}
+use Rattle.theory.proofs.Ground.Lists.{any-true, true-any, keep-in, in-keep}
+use Rattle.theory.proofs.Reaching.Components.{Together, together-sound, together-complete, together-refl, together-sym}
+use Rattle.theory.proofs.Reaching.Components.{together-trans, names-ascending}
+use Rattle.theory.proofs.Ground.Counting.{Distinct, ascending-distinct}
+use Rattle.theory.proofs.Ground.Ascending.{keep-ascending}
+use Rattle.theory.proofs.Reaching.Turned.{turned-proper, turned-left, turned-one, reach-turned}
 
 -- some arc has the end f in c's component and the end g outside of it
 abbrev pub Cross : Network → (Arc → ℕ) → (Arc → ℕ) → ℕ → Type 0

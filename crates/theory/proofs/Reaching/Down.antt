@@ -15,12 +15,12 @@ use Rattle.rules.specs.Lists.{keep}
 use Rattle.rules.specs.Network.{Network, Proper, Reach, reaches}
 use Rattle.rules.specs.Components.{name, names, left, entered}
 use Rattle.rules.specs.Plan.{turned}
-use Rattle.theory.proofs.Bools.{bool-cases, false-unless}
-use Rattle.theory.proofs.Counting.{fewer-keep}
-use Rattle.theory.proofs.Reach.{reach-arc, reach-refl, reach-trans, reaches-sound, reaches-complete}
-use Rattle.theory.proofs.Components.{name-together, name-is-name}
-use Rattle.theory.proofs.KindLaws.{Out, left-true, kinds-agree}
-use Rattle.theory.proofs.Turned.{turned-proper, turned-reach, turned-names, turned-left}
+use Rattle.theory.proofs.Ground.Bools.{bool-cases, false-unless}
+use Rattle.theory.proofs.Ground.Counting.{fewer-keep}
+use Rattle.theory.proofs.Reaching.Reach.{reach-arc, reach-refl, reach-trans, reaches-sound, reaches-complete}
+use Rattle.theory.proofs.Reaching.Components.{name-together, name-is-name}
+use Rattle.theory.proofs.Reaching.KindLaws.{Out, left-true, kinds-agree}
+use Rattle.theory.proofs.Reaching.Turned.{turned-proper, turned-reach, turned-names, turned-left}
 
 -- how many zones a zone reaches
 abbrev reach-count : Network → ℕ → ℕ

@@ -35,15 +35,15 @@ use Rattle.rules.specs.Plan.{
   plan-pairs,
   plan-need,
 }
-use Rattle.theory.proofs.Bools.{bool-agree, true-unless}
-use Rattle.theory.proofs.Lists.{keep-agree}
-use Rattle.theory.proofs.Reach.{reach-arc, reach-trans}
-use Rattle.theory.proofs.Components.{Together, names-zone}
-use Rattle.theory.proofs.Turned.{turned-left}
-use Rattle.theory.proofs.KindLaws.{Out, left-true, left-closed, source-is, sink-is}
-use Rattle.theory.proofs.Alike.{Alike, in-along, alike-sym, alike-turned, reaches-alike}
-use Rattle.theory.proofs.Alike.{strong-alike, names-alike}
-use Rattle.theory.proofs.SkeletonSame.{same-skeleton-alike}
+use Rattle.theory.proofs.Ground.Bools.{bool-agree, true-unless}
+use Rattle.theory.proofs.Ground.Lists.{keep-agree}
+use Rattle.theory.proofs.Reaching.Reach.{reach-arc, reach-trans}
+use Rattle.theory.proofs.Reaching.Components.{Together, names-zone}
+use Rattle.theory.proofs.Reaching.Turned.{turned-left}
+use Rattle.theory.proofs.Reaching.KindLaws.{Out, left-true, left-closed, source-is, sink-is}
+use Rattle.theory.proofs.Skeletons.Alike.{Alike, in-along, alike-sym, alike-turned, reaches-alike}
+use Rattle.theory.proofs.Skeletons.Alike.{strong-alike, names-alike}
+use Rattle.theory.proofs.Skeletons.SkeletonSame.{same-skeleton-alike}
 
 -- where an arc leaves c's component in one network, an arc leaves it in the other
 left-carries : {M N : Network} → Alike M N → {c : ℕ} → In c (M .zones) → left M c ≡ true → left N c ≡ true

@@ -17,16 +17,16 @@ use lib.ListN.{length}
 use Rattle.rules.specs.Lists.{every}
 use Rattle.rules.specs.Network.{Network, Proper, Reach, Strong, reaches, strong}
 use Rattle.rules.specs.Components.{name, left, entered, sources, sinks, alone}
-use Rattle.theory.proofs.Bools.{true-not-false, true-unless}
-use Rattle.theory.proofs.Lists.{every-false}
-use Rattle.theory.proofs.Few.{none-in, length-none, only-in, two-in}
-use Rattle.theory.proofs.Reach.{reach-arc, reach-trans, reaches-complete}
-use Rattle.theory.proofs.Components.{Together, together-sym, together-trans, name-in, name-is-name}
-use Rattle.theory.proofs.Components.{names-zone, names-apart}
-use Rattle.theory.proofs.Turned.{turned-proper, turned-sources, turned-sinks, turned-reach}
-use Rattle.theory.proofs.KindLaws.{Out, left-true, false-left, false-entered, entered-closed}
-use Rattle.theory.proofs.KindLaws.{source-is, is-sink, alone-is, is-alone, end-kind, alone-distinct}
-use Rattle.theory.proofs.Down.{Below, down}
+use Rattle.theory.proofs.Ground.Bools.{true-not-false, true-unless}
+use Rattle.theory.proofs.Ground.Lists.{every-false}
+use Rattle.theory.proofs.Ground.Few.{none-in, length-none, only-in, two-in}
+use Rattle.theory.proofs.Reaching.Reach.{reach-arc, reach-trans, reaches-complete}
+use Rattle.theory.proofs.Reaching.Components.{Together, together-sym, together-trans, name-in, name-is-name}
+use Rattle.theory.proofs.Reaching.Components.{names-zone, names-apart}
+use Rattle.theory.proofs.Reaching.Turned.{turned-proper, turned-sources, turned-sinks, turned-reach}
+use Rattle.theory.proofs.Reaching.KindLaws.{Out, left-true, false-left, false-entered, entered-closed}
+use Rattle.theory.proofs.Reaching.KindLaws.{source-is, is-sink, alone-is, is-alone, end-kind, alone-distinct}
+use Rattle.theory.proofs.Reaching.Down.{Below, down}
 
 module _ {N : Network} (P : Proper N) where
   -- the way down from the head of an arc out of a component ends in a sink

@@ -31,16 +31,16 @@ use Rattle.rules.specs.Plan.{
   plan,
   plan-pairs,
 }
-use Rattle.theory.proofs.Bools.{bool-cases}
-use Rattle.theory.proofs.Lists.{in-map}
-use Rattle.theory.proofs.Reach.{reach-arc, reach-refl, reach-trans, reaches-sound, reaches-complete}
-use Rattle.theory.proofs.Reach.{strong-sound}
-use Rattle.theory.proofs.Turned.{turned-proper, turned-reach, turned-sources, turned-sinks}
-use Rattle.theory.proofs.KindCounts.{source-to-sink, sink-from-source}
-use Rattle.theory.proofs.KindLaws.{end-kind, start-kind}
-use Rattle.theory.proofs.Down.{down, up}
-use Rattle.theory.proofs.Shuffled.{shuffled-in, in-shuffled}
-use Rattle.theory.proofs.Augment.{
+use Rattle.theory.proofs.Ground.Bools.{bool-cases}
+use Rattle.theory.proofs.Ground.Lists.{in-map}
+use Rattle.theory.proofs.Reaching.Reach.{reach-arc, reach-refl, reach-trans, reaches-sound, reaches-complete}
+use Rattle.theory.proofs.Reaching.Reach.{strong-sound}
+use Rattle.theory.proofs.Reaching.Turned.{turned-proper, turned-reach, turned-sources, turned-sinks}
+use Rattle.theory.proofs.Reaching.KindCounts.{source-to-sink, sink-from-source}
+use Rattle.theory.proofs.Reaching.KindLaws.{end-kind, start-kind}
+use Rattle.theory.proofs.Reaching.Down.{down, up}
+use Rattle.theory.proofs.Ground.Shuffled.{shuffled-in, in-shuffled}
+use Rattle.theory.proofs.Planning.Augment.{
   Relation,
   Properties,
   properties-more,
@@ -52,7 +52,7 @@ use Rattle.theory.proofs.Augment.{
   augmentation,
   links-joined,
 }
-use Rattle.theory.proofs.Pairing.{
+use Rattle.theory.proofs.Planning.Pairing.{
   Made,
   pairing-made,
   made-sources,

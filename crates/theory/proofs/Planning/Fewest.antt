@@ -17,18 +17,18 @@ use Rattle.rules.specs.Lists.{every}
 use Rattle.rules.specs.Network.{Arc, _⟶_, Network, added, Proper, Reach, same, step, Strong, strong}
 use Rattle.rules.specs.Components.{together, name, names, entered, sources, sinks, alone}
 use Rattle.rules.specs.Plan.{turned, plan-need}
-use Rattle.theory.proofs.Bools.{bool-cases, true-not-false}
-use Rattle.theory.proofs.Lists.{every-true, every-false}
-use Rattle.theory.proofs.Counting.{Distinct, answers-count, distinct-append}
-use Rattle.theory.proofs.Reach.{reach-trans, reach-zone, strong-complete}
-use Rattle.theory.proofs.Components.{
+use Rattle.theory.proofs.Ground.Bools.{bool-cases, true-not-false}
+use Rattle.theory.proofs.Ground.Lists.{every-true, every-false}
+use Rattle.theory.proofs.Ground.Counting.{Distinct, answers-count, distinct-append}
+use Rattle.theory.proofs.Reaching.Reach.{reach-trans, reach-zone, strong-complete}
+use Rattle.theory.proofs.Reaching.Components.{
   together-sound,
   together-complete,
   together-refl,
   name-agree,
   names-zone,
 }
-use Rattle.theory.proofs.KindLaws.{
+use Rattle.theory.proofs.Reaching.KindLaws.{
   entered-false,
   source-is,
   alone-is,
@@ -36,7 +36,7 @@ use Rattle.theory.proofs.KindLaws.{
   sources-distinct,
   alone-distinct,
 }
-use Rattle.theory.proofs.Turned.{
+use Rattle.theory.proofs.Reaching.Turned.{
   turned-proper,
   reach-turned,
   turned-sources,

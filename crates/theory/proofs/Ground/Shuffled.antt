@@ -18,7 +18,7 @@ use mathlib.Core.List.{
   Memᴰ·cast,
 }
 use lib.ListN.{length}
-use Rattle.theory.proofs.Counting.{Distinct}
+use Rattle.theory.proofs.Ground.Counting.{Distinct}
 
 module _ {A : Type 0} where
   -- rest is xs with one place of x taken out

@@ -33,7 +33,7 @@ use Rattle.rules.specs.Lists.{any}
 use Rattle.rules.specs.Network.{Arc, _⟶_, Network, Reach, same, Proper}
 use Rattle.rules.specs.Components.{together, name, is-name}
 use Rattle.rules.specs.Skeleton.{pairs-of, higher, follows, joined, between, crosses, in-skeleton, skeleton}
-use Rattle.theory.proofs.Bools.{
+use Rattle.theory.proofs.Ground.Bools.{
   and-true,
   true-and,
   true-not-false,
@@ -42,9 +42,9 @@ use Rattle.theory.proofs.Bools.{
   or-else-true,
   true-or-else,
 }
-use Rattle.theory.proofs.Lists.{any-true, true-any, false-any, keep-in, in-keep, map-in, in-map}
-use Rattle.theory.proofs.Reach.{reaches-sound, reaches-complete}
-use Rattle.theory.proofs.Components.{Together, together-sound, together-complete}
+use Rattle.theory.proofs.Ground.Lists.{any-true, true-any, false-any, keep-in, in-keep, map-in, in-map}
+use Rattle.theory.proofs.Reaching.Reach.{reaches-sound, reaches-complete}
+use Rattle.theory.proofs.Reaching.Components.{Together, together-sound, together-complete}
 
 -- each arc of a row of pairs starts at the row's zone and ends at a zone of the list
 pub row-in : {e : Arc} (a : ℕ) (hs : List ℕ) → In e (map (λ b. a ⟶ b) hs) → (e .tail ≡ a) × In (e .head) hs

@@ -21,11 +21,11 @@ use Rattle.rules.specs.Lists.{any, keep}
 use Rattle.rules.specs.Network.{_⟶_, Network, Reach, same, step, Proper}
 use Rattle.rules.specs.Components.{name}
 use Rattle.rules.specs.Skeleton.{higher, between, skeleton, skeleton-of}
-use Rattle.theory.proofs.Bools.{bool-cases, true-not-false, false-unless}
-use Rattle.theory.proofs.Lists.{any-true, any-false}
-use Rattle.theory.proofs.Reach.{reach-arc, reach-trans}
-use Rattle.theory.proofs.Counting.{fewer-keep}
-use Rattle.theory.proofs.Components.{
+use Rattle.theory.proofs.Ground.Bools.{bool-cases, true-not-false, false-unless}
+use Rattle.theory.proofs.Ground.Lists.{any-true, any-false}
+use Rattle.theory.proofs.Reaching.Reach.{reach-arc, reach-trans}
+use Rattle.theory.proofs.Ground.Counting.{fewer-keep}
+use Rattle.theory.proofs.Reaching.Components.{
   Together,
   together-refl,
   together-sym,
@@ -36,7 +36,7 @@ use Rattle.theory.proofs.Components.{
   name-lowest,
   name-name,
 }
-use Rattle.theory.proofs.SkeletonLaws.{
+use Rattle.theory.proofs.Skeletons.SkeletonLaws.{
   Follows,
   follows-together,
   Between,
@@ -49,7 +49,7 @@ use Rattle.theory.proofs.SkeletonLaws.{
   skeleton-kinds,
   in-skeleton-of,
 }
-use Rattle.theory.proofs.Gap.{together-cases, joined-reach, gap}
+use Rattle.theory.proofs.Skeletons.Gap.{together-cases, joined-reach, gap}
 
 -- the skeleton is a network as every call accepts
 pub skeleton-proper : {N : Network} → Proper N → Proper (skeleton-of N)

@@ -9,7 +9,7 @@ use mathlib.Core.List.{List, [], _∷_, List·Memᴰ as In, List·Memᴰ·head, 
 use mathlib.Core.List.{List·Memᴰ·eq-of-singleton}
 use native.Mathlib.Omega.{arith}
 use lib.ListN.{length}
-use Rattle.theory.proofs.Counting.{Distinct}
+use Rattle.theory.proofs.Ground.Counting.{Distinct}
 
 module _ {A : Type 0} where
   -- a list with no element is empty

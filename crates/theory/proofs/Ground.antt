@@ -1,0 +1,7 @@
+-- What the theory stands on: Bools, lists, counting, numbers that ascend.
+pub mod Bools
+pub mod Lists
+pub mod Counting
+pub mod Ascending
+pub mod Few
+pub mod Shuffled
