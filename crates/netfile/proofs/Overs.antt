@@ -1,13 +1,11 @@
 -- A lent list with a result put into it.
 --   over-more     one more element of the result: a store at its end
---   over-length   the length stays
 -- Assumes nothing.
-use Prim.Native.Nat.{ℕ, _+_, _≤_, _<_}
+use Prim.Native.Nat.{ℕ, _+_, _<_}
 use native.Mathlib.Numerals.{add-one}
-use native.Mathlib.Omega.{arith}
 use mathlib.Core.Path.{_≡_, sym, _∙_}
 use mathlib.Core.List.{List, [], _∷_, _++_}
-use lib.ListN.{length, set, length-append, length-drop}
+use lib.ListN.{length, set, length-append}
 use lib.Seq.{drop-cons, set-append-seam, append-snoc}
 use Rattle.rules.specs.Lists.{over}
 
@@ -17,7 +15,3 @@ pub over-more : (xs old : List ℕ) (v : ℕ) → length xs < length old
 over-more xs old v h =
     rw (drop-cons old (length xs) 0, set-append-seam, length-append)
     (sym (append-snoc xs v _) ∙ rw (add-one (length xs)))
-
--- The length of the list stays.
-pub over-length : (xs old : List ℕ) → length xs ≤ length old → length (over xs old) ≡ length old
-over-length xs old h = simp (length-append, length-drop) (omega arith)
