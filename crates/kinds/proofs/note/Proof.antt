@@ -41,6 +41,10 @@ tail-low c = omega (arith, tail-name c, room c .zone (begun c .args .tail) (begu
 head-low : (c : Names) → c .wide4 .result < begun c .args .zones
 head-low c = omega (arith, head-name c, room c .zone (begun c .args .head) (begun c .pre .1 .1))
 
+-- Both names are zones.
+low : (c : Names) → let n = begun c .args .zones in (c .before .before .wide3 .result < n) × (c .wide4 .result < n)
+low c = (tail-low c, head-low c)
+
 -- Sums and casts keep in range, and places are inside the memory.
 mul-t : tie.Need-mul-t
 mul-t c = search needs
@@ -94,25 +98,25 @@ mul-work : tie.Need-mul-work
 mul-work c = search needs
 
 add-work : tie.Need-add-work
-add-work c = omega (arith, head-low (c .before), room (c .before) .small)
+add-work c = omega (arith, low (c .before), room (c .before) .small)
 
 mul-work-2 : tie.Need-mul-work-2
-mul-work-2 c = omega (arith, head-low (c .before), room (c .before) .fits)
+mul-work-2 c = omega (arith, low (c .before), room (c .before) .fits)
 
 slice-write-work : tie.Need-slice-write-work
-slice-write-work c = omega (arith, head-low (c .before), room (c .before) .fits)
+slice-write-work c = omega (arith, low (c .before), room (c .before) .fits)
 
 mul-work-3 : tie.Need-mul-work-3
 mul-work-3 c = search needs
 
 add-work-2 : tie.Need-add-work-2
-add-work-2 c = omega (arith, tail-low (c .before), room (c .before) .small)
+add-work-2 c = omega (arith, low (c .before), room (c .before) .small)
 
 mul-work-4 : tie.Need-mul-work-4
-mul-work-4 c = omega (arith, tail-low (c .before), room (c .before) .fits)
+mul-work-4 c = omega (arith, low (c .before), room (c .before) .fits)
 
 slice-write-work-2 : tie.Need-slice-write-work-2
-slice-write-work-2 c = simp length-set (omega (arith, tail-low (c .before), room (c .before) .fits))
+slice-write-work-2 c = simp length-set (omega (arith, low (c .before), room (c .before) .fits))
 
 -- The memory keeps its length.
 same-length : tie.Need-same-length
