@@ -1,7 +1,7 @@
 -- A lent list with a result put into it.
 --   over-more     one more element of the result: a store at its end
 -- Assumes nothing.
-use Prim.Native.Nat.{ℕ, _+_, _<_}
+use Prim.Native.Nat.{ℕ, _<_}
 use native.Mathlib.Numerals.{add-one}
 use mathlib.Core.Path.{_≡_, sym, _∙_}
 use mathlib.Core.List.{List, [], _∷_, _++_}

@@ -13,7 +13,7 @@ use lib.Dec.{leb, eqb}
 use borrow.Author.Tests.{leb-false}
 use Rattle.rules.specs.Answers.{Refusal}
 use Rattle.rules.specs.Network.{Arc}
-use Rattle.rules.specs.Number.{Reading, got, bad, then, refusal, number-at}
+use Rattle.rules.specs.Number.{Reading, got, bad, then, number-at}
 use Rattle.rules.specs.File.{zone-at, arc-at, arcs-at}
 use Rattle.netfile.proofs.Thens.{then-got, unless-got}
 

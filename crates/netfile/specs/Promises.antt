@@ -1,31 +1,16 @@
 -- What reading and writing promise, of the answer and of every list that was lent.
---   found-says r, found-tails r, found-heads r   the answer to a reading r of a file, and what it leaves in a lent list
 --   Put r ..        the answer and the two lists after a reading r
 --   Read-promise    of reading a file;   Write-promise   of writing one
 use Prim.Native.Nat.{ℕ}
 use mathlib.Core.Path.{_≡_}
-use mathlib.Core.List.{List, [], _∷_, map}
-use lib.ListN.{length}
-use Rattle.rules.specs.Lists.{over}
-use Rattle.rules.specs.Network.{Arc}
-use Rattle.rules.specs.Answers.{Told, done, refused, read-told, write-told}
-use Rattle.rules.specs.Number.{Reading, got, bad}
+use mathlib.Core.List.{List}
+use Rattle.rules.specs.Answers.{read-told, write-told}
+use Rattle.rules.specs.Number.{Reading}
 use Rattle.rules.specs.File.{Given}
-use Rattle.rules.specs.Calls.{read-says, read-leaves-tails, read-leaves-heads, write-says, write-leaves-file}
+use Rattle.rules.specs.Calls.{found-says, found-tails, found-heads, read-says, read-leaves-tails, read-leaves-heads}
+use Rattle.rules.specs.Calls.{write-says, write-leaves-file}
 use Rattle.rules.specs.declared.ReadAnswer.{ReadAnswer}
 use Rattle.rules.specs.declared.WriteAnswer.{WriteAnswer}
-
--- the two counts, or the refusal
-abbrev pub found-says : Reading Given → Told
-found-says r = elim r [ bad t ↦ refused 2 t | got g end ↦ done (g .zones ∷ length (g .arcs) ∷ []) ]
-
--- the list of tails: the tails that were found, or as it came
-abbrev pub found-tails : Reading Given → List ℕ → List ℕ
-found-tails r ts = elim r [ bad t ↦ ts | got g end ↦ over (map (λ (e : Arc). e .tail) (g .arcs)) ts ]
-
--- the list of heads: the heads that were found, or as it came
-abbrev pub found-heads : Reading Given → List ℕ → List ℕ
-found-heads r hs = elim r [ bad t ↦ hs | got g end ↦ over (map (λ (e : Arc). e .head) (g .arcs)) hs ]
 
 -- the answer a to a reading r, and the lists ts' and hs' that it leaves where ts and hs were lent
 pub record Put (r : Reading Given) (ts hs : List ℕ) (a : ReadAnswer) (ts' hs' : List ℕ) : Type 0 where

@@ -84,6 +84,18 @@ says k t vs = elim t [ some r ↦ refused k r | none ↦ done vs ]
 abbrev pub leaves : Option Refusal → List ℕ → List ℕ → List ℕ
 leaves t before after = elim t [ some r ↦ before | none ↦ after ]
 
+-- the two counts that a reading of a file found, or its refusal
+abbrev pub found-says : Reading Given → Told
+found-says r = elim r [ bad t ↦ refused 2 t | got g end ↦ done (g .zones ∷ length (g .arcs) ∷ []) ]
+
+-- a lent list of tails: the tails that were found, or as it came
+abbrev pub found-tails : Reading Given → List ℕ → List ℕ
+found-tails r ts = elim r [ bad t ↦ ts | got g end ↦ over (map (λ (e : Arc). e .tail) (g .arcs)) ts ]
+
+-- a lent list of heads: the heads that were found, or as it came
+abbrev pub found-heads : Reading Given → List ℕ → List ℕ
+found-heads r hs = elim r [ bad t ↦ hs | got g end ↦ over (map (λ (e : Arc). e .head) (g .arcs)) hs ]
+
 -- READ: two lists are lent, for tails and heads
 module _ (file tails heads : List ℕ) where
   -- what reading the file finds
@@ -94,18 +106,15 @@ module _ (file tails heads : List ℕ) where
   -- zones and arcs
   unfoldable pub read-says : Told
   unfolding read-finds
-  read-says =
-      elim read-finds [ bad r ↦ refused 2 r | got g end ↦ done (g .zones ∷ length (g .arcs) ∷ []) ]
+  read-says = found-says read-finds
 
   unfoldable pub read-leaves-tails : List ℕ
   unfolding read-finds
-  read-leaves-tails =
-      elim read-finds [ bad r ↦ tails | got g end ↦ over (map (λ (e : Arc). e .tail) (g .arcs)) tails ]
+  read-leaves-tails = found-tails read-finds tails
 
   unfoldable pub read-leaves-heads : List ℕ
   unfolding read-finds
-  read-leaves-heads =
-      elim read-finds [ bad r ↦ heads | got g end ↦ over (map (λ (e : Arc). e .head) (g .arcs)) heads ]
+  read-leaves-heads = found-heads read-finds heads
 
 -- every other call is handed a network: a zone count, a tail list and a head list
 module _ (n : ℕ) (ts hs : List ℕ) where

@@ -7,10 +7,10 @@ use Prim.Native.Nat.{ℕ, zero, suc, _+_, _≤_, _<_, zero-le}
 use native.Mathlib.Nat.{le-of-suc-le-suc, not-suc-le-zero, eq-or-lt-of-le}
 use native.Mathlib.Omega.{arith}
 use mathlib.Core.Path.{_≡_, refl, sym, ap, _∙_}
-use mathlib.Core.Logic.{⊎-elim, _⊎_}
+use mathlib.Core.Logic.{⊎-elim}
 use mathlib.Core.List.{List, [], _∷_, zipWith, List·Memᴰ as In, List·Memᴰ·head, List·Memᴰ·tail}
 use mathlib.Core.List.{List·Memᴰ·cases-cons, List·Memᴰ·not-nil}
-use mathlib.Core.Option.{none, some}
+use mathlib.Core.Option.{none}
 use mathlib.Core.Bool.{Bool, true, false, not, _||_}
 use lib.Dec.{eqb, leb, ltb}
 use lib.ListN.{length, getD}
