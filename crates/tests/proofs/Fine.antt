@@ -2,8 +2,9 @@
 --   fine           no trouble: the lists pair up, the counts are within bounds, and every arc joins two distinct zones
 --   fine-proper    such a network is proper: its zones ascend, and its arcs are between zones
 --   fine-arc       an arc of it joins two distinct zones
+--   arcs-index, index-arcs   an arc stands at one index of both lists, and what stands so is an arc
 -- Each test that does not fail is one of the facts; the arcs go one after the other. Assumes nothing.
-use Prim.Native.Nat.{ℕ, zero, suc, _+_, _≤_, _<_, zero-le}
+use Prim.Native.Nat.{ℕ, zero, suc, _≤_, _<_, zero-le}
 use native.Mathlib.Nat.{le-of-suc-le-suc, not-suc-le-zero, eq-or-lt-of-le}
 use native.Mathlib.Omega.{arith}
 use mathlib.Core.Path.{_≡_, refl, sym, ap, _∙_}
@@ -11,14 +12,15 @@ use mathlib.Core.Logic.{⊎-elim}
 use mathlib.Core.List.{List, [], _∷_, zipWith, List·Memᴰ as In, List·Memᴰ·head, List·Memᴰ·tail}
 use mathlib.Core.List.{List·Memᴰ·cases-cons, List·Memᴰ·not-nil}
 use mathlib.Core.Option.{none}
-use mathlib.Core.Bool.{Bool, true, false, not, _||_}
+use mathlib.Core.Bool.{not}
 use lib.Dec.{eqb, leb, ltb}
 use lib.ListN.{length, getD}
 use borrow.Author.Tests.{leb-false, ltb-false, eqb-true, eqb-false, not-false}
-use Rattle.rules.specs.Lists.{run}
-use Rattle.rules.specs.Network.{Arc, _⟶_, Above, Ascending, Proper}
+use Rattle.rules.specs.Network.{Arc, _⟶_, Proper}
 use Rattle.rules.specs.File.{zones-bad, arcs-bad}
 use Rattle.rules.specs.Calls.{first-trouble, arcs-of, handed, arc-tests, arcs-tests, network-tests}
+use Rattle.theory.proofs.Ground.Bools.{or-false}
+use Rattle.theory.proofs.Ground.Ascending.{network-proper}
 use Rattle.tests.specs.Tested.{Fine}
 use Rattle.tests.proofs.Troubles.{passes, both-pass}
 
@@ -48,11 +50,6 @@ arcs-join n i (t ∷ ts) (x ∷ hs) l e (suc k) h =
     let p = both-pass (arc-tests n i (t ⟶ x)) (arcs-tests n (suc i) (arcs-of ts hs)) e in
     arcs-join n (suc i) ts hs (omega arith) (p .1) k (le-of-suc-le-suc h)
 
--- Where neither of two tests holds.
-pub neither : (a b : Bool) → (a || b) ≡ false → (a ≡ false) × (b ≡ false)
-neither true b e = (e, cc)
-neither false b e = (refl, e)
-
 -- A number that is not below another and not equal to it is above it.
 above-or : (a k : ℕ) → a ≤ k → (k ≡ a → ⊥) → suc a ≤ k
 above-or a k l ne = ⊎-elim (λ (e : a ≡ k). absurd (ne (sym e))) (λ h. h) (eq-or-lt-of-le l)
@@ -65,7 +62,7 @@ fine n ts hs e =
     let q = passes (zones-bad n) _ _ (p .1) in
     let r = passes (arcs-bad (length ts)) _ _ (q .1) in
     let l : length ts ≡ length hs = eqb-true _ _ (not-false _ (p .0)) in
-    let z = neither (eqb n 0) (ltb 1024 n) (q .0) in
+    let z = or-false (eqb n 0) (ltb 1024 n) (q .0) in
     let j = arcs-join n 0 ts hs l (r .1) in
     record {
       paired = l;
@@ -77,26 +74,8 @@ fine n ts hs e =
       apart = λ i h. j i h .apart;
     }
 
--- Every number from a on, and below a + n, stands in a row of n numbers from a on.
-run-in : (n a k : ℕ) → a ≤ k → k < a + n → In k (run a n)
-run-in zero a k l h = absurd (omega arith)
-run-in (suc n) a k l h =
-    ⊎-elim
-    (λ (e : a ≡ k). List·Memᴰ·head (sym e))
-    (λ (h' : a < k). List·Memᴰ·tail (run-in n (suc a) k h' (omega arith)))
-    (eq-or-lt-of-le l)
-
--- A row ascends.
-run-above : (n a b : ℕ) → a < b → Above a (run b n)
-run-above zero a b h = tt
-run-above (suc n) a b h = (h, run-above n b (suc b) (omega arith))
-
-run-ascending : (n a : ℕ) → Ascending (run a n)
-run-ascending zero a = tt
-run-ascending (suc n) a = run-above n a (suc a) (omega arith)
-
 -- An arc of two lists stands at some index of them.
-arcs-index : (ts hs : List ℕ) {a b : ℕ} → In (a ⟶ b) (arcs-of ts hs)
+pub arcs-index : (ts hs : List ℕ) {a b : ℕ} → In (a ⟶ b) (arcs-of ts hs)
     → (k : ℕ) × (k < length ts) × (getD ts k 0 ≡ a) × (getD hs k 0 ≡ b)
 unfolding arcs-of zipWith
 arcs-index [] hs m = absurd (List·Memᴰ·not-nil m)
@@ -106,6 +85,15 @@ arcs-index (t ∷ ts) (h ∷ hs) {a} {b} m =
     (λ (e : (a ⟶ b) ≡ (t ⟶ h)). (0, omega arith, ap (λ (x : Arc). x .tail) (sym e), ap (λ (x : Arc). x .head) (sym e)))
     (λ (m' : In (a ⟶ b) (zipWith _⟶_ ts hs)). let w = arcs-index ts hs m' in (suc (w .0), omega arith, w .2, w .3))
     (List·Memᴰ·cases-cons m)
+
+-- What stands at one index of two lists is an arc of them.
+pub index-arcs : (ts hs : List ℕ) (k : ℕ) → k < length ts → k < length hs
+    → In (getD ts k 0 ⟶ getD hs k 0) (arcs-of ts hs)
+unfolding arcs-of zipWith
+index-arcs [] hs k l h = absurd (not-suc-le-zero l)
+index-arcs (t ∷ ts) [] k l h = absurd (not-suc-le-zero h)
+index-arcs (t ∷ ts) (x ∷ hs) zero l h = List·Memᴰ·head refl
+index-arcs (t ∷ ts) (x ∷ hs) (suc k) l h = List·Memᴰ·tail (index-arcs ts hs k (omega arith) (omega arith))
 
 module _ (n : ℕ) (ts hs : List ℕ) (f : Fine n ts hs) where
   -- An arc of a fine network joins two distinct zones.
@@ -123,9 +111,4 @@ module _ (n : ℕ) (ts hs : List ℕ) (f : Fine n ts hs) where
   -- A fine network is proper.
   pub fine-proper : Proper (handed n ts hs)
   unfolding handed
-  fine-proper =
-      record {
-        ascending = run-ascending n 0;
-        tails = λ m. run-in n 0 _ zero-le (let j = fine-arc m in omega arith);
-        heads = λ m. run-in n 0 _ zero-le (let j = fine-arc m in omega arith);
-      }
+  fine-proper = network-proper n (arcs-of ts hs) (λ a b m. let j = fine-arc m in (j .tail, j .head))

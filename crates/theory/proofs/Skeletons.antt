@@ -5,3 +5,4 @@ pub mod SkeletonReach
 pub mod Alike
 pub mod SkeletonSame
 pub mod SkeletonLeast
+pub mod SkeletonOrder

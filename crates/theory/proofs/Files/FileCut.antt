@@ -20,7 +20,8 @@ use Rattle.rules.specs.File.{Given, zone-at, arc-at, arcs-at, body-at, counted-
 use Rattle.rules.specs.Text.{printed, plan-lines, refusal-line}
 use Rattle.theory.proofs.Files.Readings.{then-alike, unless-alike}
 use Rattle.theory.proofs.Files.NumberLaws.{number-next, number-alike}
-use Rattle.theory.proofs.Files.FileLaws.{zone-got, or-false, arc-end, arcs-end}
+use Rattle.theory.proofs.Files.FileLaws.{zone-got, arc-end, arcs-end}
+use Rattle.theory.proofs.Ground.Bools.{or-false}
 
 module _ (s t : List ℕ) (k : ℕ) (long-s : k ≤ length s) (long-t : k ≤ length t)
     (same : (i : ℕ) → i < k → getD s i 0 ≡ getD t i 0) where

@@ -13,7 +13,7 @@ use Prim.Native.Nat.{ℕ, zero, suc, _+_, _*_, _<_, _≤_}
 use native.Mathlib.Omega.{arith}
 use mathlib.Core.Path.{_≡_, refl, sym, _∙_, ap, ap₂, subst, subst₂}
 use mathlib.Core.Logic.{inl, inr, _↔_}
-use mathlib.Core.Bool.{Bool, true, false, _||_, true≢false}
+use mathlib.Core.Bool.{_||_}
 use mathlib.Core.List.{List, [], _∷_, _++_, List·Memᴰ as In, List·Memᴰ·head, List·Memᴰ·tail, List·Memᴰ·cases-cons}
 use mathlib.Core.List.{List·Memᴰ·not-nil}
 use lib.ListN.{length}
@@ -23,6 +23,7 @@ use Rattle.rules.specs.Network.{Arc}
 use Rattle.rules.specs.Number.{number-bytes, got, number-at}
 use Rattle.rules.specs.File.{Given, Acceptable, arc-bytes, arcs-bytes, file-bytes}
 use Rattle.rules.specs.File.{zone-at, arc-at, arcs-at, body-at, counted-at, file-at}
+use Rattle.theory.proofs.Ground.Bools.{or-false}
 use Rattle.theory.proofs.Files.Readings.{unless-got, then-got, got-value, got-place, Stands}
 use Rattle.theory.proofs.Files.Readings.{stands-nothing, stands-whole, stands-join, stands-left, stands-right}
 use Rattle.theory.proofs.Files.Readings.{stands-all}
@@ -55,11 +56,6 @@ pub record FileRead (s : List ℕ) (a b : ℕ) (g : Given) (end : ℕ) : Type 0 
 -- the arcs of a network that a call accepts are between different zones
 acceptable-sound : (g : Given) → Acceptable g → (x : Arc) → In x (g .arcs) → Sound (g .zones) x
 acceptable-sound g h x i = (h .tails i, h .heads i, h .apart i)
-
--- neither side of a disjunction that is false is true
-pub or-false : (a b : Bool) → (a || b) ≡ false → (a ≡ false) × (b ≡ false)
-or-false true b e = absurd (true≢false e)
-or-false false b e = (refl, e)
 
 module _ (s : List ℕ) (n : ℕ) where
   -- a zone number that is read is a number below the zone count

@@ -3,11 +3,12 @@
 --   bool-agree     two values of which each is true where the other is are equal
 --   and-true, true-and     a conjunction is true exactly when both sides are
 --   and-then, or-else      conjunction and disjunction that stop where the answer is settled, with the same laws
+--   or-false               neither side of a disjunction that is false is true
 --   false-not, true-not    the negation of a value that is known
 -- By cases on the values. Assumes nothing.
 use mathlib.Core.Path.{_≡_, refl, sym, _∙_, ap}
 use mathlib.Core.Logic.{_⊎_, inl, inr}
-use mathlib.Core.Bool.{Bool, true, false, not, _&&_, true≢false, false≢true}
+use mathlib.Core.Bool.{Bool, true, false, not, _&&_, _||_, true≢false, false≢true}
 
 -- a value is true or false
 pub bool-cases : (b : Bool) → (b ≡ true) ⊎ (b ≡ false)
@@ -79,3 +80,8 @@ false-not e = ap not e
 -- the negation of a value that is true
 pub true-not : {b : Bool} → b ≡ true → not b ≡ false
 true-not e = ap not e
+
+-- neither side of a disjunction that is false is true
+pub or-false : (a b : Bool) → (a || b) ≡ false → (a ≡ false) × (b ≡ false)
+or-false true b e = absurd (true≢false e)
+or-false false b e = (refl, e)

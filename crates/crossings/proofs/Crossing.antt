@@ -1,0 +1,212 @@
+-- The arcs that cross from a zone: what the marks of direct and of chosen names say of the network.
+--   crossed-none        no arc crosses from a zone that is no name
+--   crossed-direct, crossed-choose     what marking the direct names asks, and what choosing among them asks
+--   crossed-all         after that the chosen names are the heads of the arcs that cross
+-- A mark among the direct names stands where the theory's `Direct` holds, and what is picked is the theory's `Chosen`.
+-- Assumes nothing.
+use mathlib.Core.Path.{_≡_, refl, sym, ap, _∙_}
+use mathlib.Core.List.{List, List·Memᴰ as In}
+use mathlib.Core.Bool.{true}
+use Prim.Native.Nat.{ℕ, _+_, _*_, _≤_, _<_}
+use native.Mathlib.Omega.{arith}
+use lib.ListN.{length, getD, take, drop}
+use Rattle.rules.specs.Network.{Network, _⟶_, Proper, Reach}
+use Rattle.rules.specs.Components.{name}
+use Rattle.rules.specs.Skeleton.{crosses}
+use Rattle.rules.specs.Calls.{arcs-of, handed}
+use Rattle.tests.proofs.Fine.{arcs-index, index-arcs}
+use Rattle.theory.proofs.Reaching.Components.{Together, together-zone, name-together, name-name, name-agree}
+use Rattle.theory.proofs.Skeletons.SkeletonLaws.{Joined, Crosses, crosses-true, true-crosses}
+use Rattle.theory.proofs.Skeletons.SkeletonOrder.{Direct, Chosen, direct-zone, chosen-crosses, crosses-chosen}
+use Rattle.rows.specs.Marks.{Marked}
+use Rattle.rows.proofs.Regions.{at-below, at-kept}
+use Rattle.search.specs.Marking.{Clear}
+use Rattle.search.proofs.Keeping.{drop-deeper}
+use Rattle.crossings.specs.Named.{name-at, top-at, Named, Crossed}
+use Rattle.crossings.specs.Direct.{Leads, Led, Directable, Directed}
+use Rattle.crossings.specs.Choosing.{Came, Picked, Choosable, Choosing}
+use Rattle.crossings.proofs.NamedLaws.{
+  zone-in,
+  in-zone,
+  named-kept,
+  named-proper,
+  named-zone,
+  top-zone,
+  named-laid,
+  way-reach,
+  reach-way,
+}
+
+module _ (w : List ℕ) (n : ℕ) (ts hs : List ℕ) (m : ℕ) (N : Named w n ts hs m) (clear : Clear w 0 (4 * n)) (a : ℕ)
+    (low : a < n) where
+  -- an element of the free part is zero
+  free-zero : (i : ℕ) → i < 4 * n → getD w i 0 ≡ 0
+  free-zero i h = ap (λ (k : ℕ). getD w k 0) (omega arith) ∙ clear i h
+
+  -- a zone that is no name has no mark, and no arc crosses from it
+  pub crossed-none : (name-at w n a ≡ a → ⊥) → Crossed w w n ts hs a
+  crossed-none other =
+      record {
+        long = refl;
+        high = refl;
+        sound = λ b h o. absurd (o (free-zero (3 * n + b) (omega arith)));
+        complete = λ b h e.
+            absurd (other (N .named a low ∙ crosses-true (named-proper w n ts hs m N) a b e .tail-names));
+      }
+
+  -- the direct names can be marked
+  pub crossed-direct : Directable w n ts hs
+  crossed-direct =
+      record {
+        fine = N .fine;
+        fits = omega (arith, N .room);
+        names = named-zone w n ts hs m N;
+        clear = λ v h. free-zero (2 * n + v) (omega arith);
+      }
+
+  -- v is the memory with the marks of the direct names
+  module _ (v : List ℕ) (D : Directed w v n a ts hs (length ts)) where
+    -- rows and names stand still
+    pub named-still : Named v n ts hs m
+    named-still =
+        named-kept w v n ts hs m (D .long) (drop-deeper w v (3 * n) (4 * n) (omega arith) (D .high)) N
+
+    -- the names can be tried
+    pub crossed-choose : Choosable v n m
+    crossed-choose =
+        record {
+          laid = named-laid v n ts hs m named-still;
+          clear = λ z h. at-below w v (2 * n) (0 + z) (omega arith) (D .low) ∙ free-zero (0 + z) (omega arith);
+          free = λ z h.
+              at-kept w v (3 * n) (3 * n + z) (omega arith) (D .high) ∙ free-zero (3 * n + z) (omega arith);
+          few = N .few;
+          names = top-zone v n ts hs m named-still;
+        }
+
+    -- the zone is a name
+    module _ (is : name-at w n a ≡ a) where
+      -- the network
+      abbrev net : Network
+      net = handed n ts hs
+
+      -- it is proper
+      proper : Proper net
+      proper = named-proper w n ts hs m N
+
+      -- the rules say so too
+      own : name net a ≡ a
+      own = sym (N .named a low) ∙ is
+
+      -- a zone with the name d is together with d
+      with-name : (z d : ℕ) → z < n → name-at w n z ≡ d → Together net z d
+      with-name z d h e = rw (sym (N .named z h) ∙ e) at (name-together proper (zone-in n ts hs z h))
+
+      -- a zone together with a name has that name
+      name-with : (z d : ℕ) → z < n → name net d ≡ d → Together net z d → name-at w n z ≡ d
+      name-with z d h e t =
+          let i = zone-in n ts hs z h in
+          N .named z h ∙ name-agree proper i (together-zone proper i t) t ∙ e
+
+      -- an arc by its index
+      arc-at : (k : ℕ) → k < length ts → In (getD ts k 0 ⟶ getD hs k 0) (net .arcs)
+      unfolding handed
+      arc-at k h = index-arcs ts hs k h (omega (arith, N .fine .paired))
+
+      -- where an arc leads is direct
+      led-direct : (d : ℕ) → Led (name-at w n) a ts hs (length ts) d → Direct net a d
+      led-direct d l =
+          let t = getD ts (l .at) 0 in
+          let h = getD hs (l .at) 0 in
+          let th : h < n = N .fine .heads (l .at) (l .high) in
+          let same = sym (N .named h th) ∙ l .leads .to in
+          record {
+            named = rw same at (name-name proper (zone-in n ts hs h th));
+            other = l .leads .other;
+            arc = (
+              t ⟶ h,
+              arc-at (l .at) (l .high),
+              with-name t a (N .fine .tails (l .at) (l .high)) (l .leads .from),
+              with-name h d th (l .leads .to),
+            );
+          }
+
+      -- the index of an arc of the network
+      at-arc : {t h : ℕ} → In (t ⟶ h) (net .arcs) → (k : ℕ) × (k < length ts) × (getD ts k 0 ≡ t) × (getD hs k 0 ≡ h)
+      unfolding handed
+      at-arc i = arcs-index ts hs i
+
+      -- to what is direct an arc leads
+      direct-led : (d : ℕ) → Direct net a d → Led (name-at w n) a ts hs (length ts) d
+      direct-led d X =
+          let j : Joined net a d = X .arc in
+          let k = at-arc (j .1) in
+          let t : j .0 .tail < n = in-zone n ts hs (j .0 .tail) (proper .tails (j .1)) in
+          let h : j .0 .head < n = in-zone n ts hs (j .0 .head) (proper .heads (j .1)) in
+          record {
+            at = k .0;
+            high = k .1;
+            leads =
+                record {
+                  from = rw (k .2) (name-with (j .0 .tail) a t own (j .2));
+                  to = rw (k .3) (name-with (j .0 .head) d h (X .named) (j .3));
+                  other = X .other;
+                };
+          }
+
+      -- a direct name is below the zone count
+      direct-low : (d : ℕ) → Direct net a d → d < n
+      direct-low d X = in-zone n ts hs d (direct-zone proper X)
+
+      -- a mark among the direct names stands for a direct one
+      marked-direct : (d : ℕ) → d < n → Marked v (2 * n) d → Direct net a d
+      marked-direct d h o = led-direct d (D .sound d h o)
+
+      -- a direct name has its mark
+      direct-marked : (d : ℕ) → Direct net a d → Marked v (2 * n) d
+      direct-marked d X = D .complete d (direct-low d X) (direct-led d X)
+
+      -- what is picked is chosen
+      picked-chosen : (b : ℕ) → b < n → Picked v n m b → Chosen net (top-at v n) m a b
+      picked-chosen b h p =
+          record {
+            at = p .at;
+            low = p .high;
+            is = p .is;
+            direct = marked-direct b h (p .direct);
+            free = λ j l X r.
+                p .free
+                (record {
+                  at = j;
+                  high = l;
+                  direct = direct-marked (top-at v n j) X;
+                  way = reach-way v n ts hs m named-still r;
+                });
+          }
+
+      -- what is chosen is picked
+      chosen-picked : (b : ℕ) → Chosen net (top-at v n) m a b → Picked v n m b
+      chosen-picked b X =
+          record {
+            at = X .at;
+            high = X .low;
+            is = X .is;
+            direct = direct-marked b (X .direct);
+            free = λ c.
+                let l : c .at < m = omega (arith, c .high, X .low) in
+                X .free (c .at) (c .high)
+                (marked-direct (top-at v n (c .at)) (top-zone v n ts hs m named-still (c .at) l) (c .direct))
+                (way-reach v n ts hs m named-still (c .way));
+          }
+
+      -- w' is the memory with the marks of the chosen names: they are the heads of the arcs that cross
+      pub crossed-all : (w' : List ℕ) → Choosing v w' n m → Crossed w w' n ts hs a
+      crossed-all w' C =
+          let O = named-still .ordered in
+          record {
+            long = C .long ∙ D .long;
+            high = C .high ∙ drop-deeper w v (3 * n) (4 * n) (omega arith) (D .high);
+            sound = λ b h o.
+                true-crosses proper a b (chosen-crosses proper O own (picked-chosen b h (C .chosen b h o)));
+            complete = λ b h e.
+                C .picked b h (chosen-picked b (crosses-chosen proper O (crosses-true proper a b e)));
+          }

@@ -1,0 +1,5 @@
+-- Laws of marking the arcs that cross from one component to another.
+pub mod NamedLaws
+mod Noting
+mod Trying
+mod Crossing

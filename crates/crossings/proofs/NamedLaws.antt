@@ -1,0 +1,93 @@
+-- Lent work memory in which a network's zones have their names.
+--   zone-in, in-zone     a number below the zone count is a zone, and a zone is below it
+--   named-kept           what keeps everything from 4 n on keeps rows and names
+--   named-zone, top-zone the names that stand there are zones
+--   named-laid           a search can go along the rows, with its marks and stack in the first 2 n places
+--   way-reach, reach-way a run along the rows is a reach, and back
+-- Assumes nothing.
+use mathlib.Core.Path.{_≡_, sym, _∙_}
+use mathlib.Core.List.{List, List·Memᴰ as In}
+use Prim.Native.Nat.{ℕ, _+_, _*_, _≤_, _<_}
+use native.Mathlib.Omega.{arith}
+use lib.ListN.{length, getD, drop}
+use Rattle.rules.specs.Network.{Proper, Reach}
+use Rattle.rules.specs.Components.{name}
+use Rattle.rules.specs.Calls.{arcs-of, handed}
+use Rattle.tests.proofs.Fine.{fine-proper}
+use Rattle.theory.proofs.Ground.Ascending.{run-in, in-run}
+use Rattle.theory.proofs.Reaching.Components.{name-in}
+use Rattle.theory.proofs.Skeletons.SkeletonOrder.{Ordered}
+use Rattle.rows.specs.Work.{starts-at, rows-at}
+use Rattle.rows.proofs.ArcRows.{arcs-length}
+use Rattle.rows.proofs.ArrangedLaws.{arranged-kept, run-reach, reach-run}
+use Rattle.rows.proofs.Regions.{at-kept}
+use Rattle.search.specs.Marking.{Laid}
+use Rattle.search.proofs.Keeping.{drop-deeper}
+use Rattle.search.proofs.Laying.{arranged-laid}
+use Rattle.network.proofs.Memory.{arcs-within}
+use Rattle.crossings.specs.Named.{name-at, top-at, Named}
+use Rattle.crossings.specs.Choosing.{Way}
+
+module _ (n : ℕ) (ts hs : List ℕ) where
+  -- a number below the zone count is a zone
+  pub zone-in : (v : ℕ) → v < n → In v (handed n ts hs .zones)
+  unfolding handed
+  zone-in v h = in-run 0 n (omega arith) (omega arith)
+
+  -- a zone is a number below the zone count
+  pub in-zone : (v : ℕ) → In v (handed n ts hs .zones) → v < n
+  unfolding handed
+  in-zone v i = omega (arith, run-in 0 n i .1)
+
+-- what keeps everything from 4 n on keeps rows and names
+pub named-kept : (w w' : List ℕ) (n : ℕ) (ts hs : List ℕ) (m : ℕ) → length w' ≡ length w →
+    drop (4 * n) w' ≡ drop (4 * n) w → Named w n ts hs m → Named w' n ts hs m
+named-kept w w' n ts hs m long same N =
+    let top : (j : ℕ) → top-at w' n j ≡ top-at w n j = λ j. at-kept w w' (4 * n) (4 * n + j) (omega arith) same in
+    let O = N .ordered in
+    record {
+      fine = N .fine;
+      room = omega (arith, N .room);
+      rows =
+          arranged-kept w w' n (starts-at n) (rows-at n) (arcs-of ts hs)
+          (drop-deeper w w' (4 * n) (starts-at n) (omega arith) same)
+          (N .rows);
+      few = N .few;
+      named = λ v h. at-kept w w' (4 * n) (5 * n + v) (omega arith) same ∙ N .named v h;
+      ordered =
+          record {
+            own = λ j h. rw (top j) (O .own j h);
+            all = λ c i e. let r = O .all c i e in (r .0, r .1, top (r .0) ∙ r .2);
+            after = λ j k l h r. O .after j k l h (rw (top j, top k) at r);
+          };
+    }
+
+module _ (w : List ℕ) (n : ℕ) (ts hs : List ℕ) (m : ℕ) (N : Named w n ts hs m) where
+  -- the network is proper
+  pub named-proper : Proper (handed n ts hs)
+  named-proper = fine-proper n ts hs (N .fine)
+
+  -- the name of a zone is a zone
+  pub named-zone : (v : ℕ) → v < n → name-at w n v < n
+  named-zone v h = rw (N .named v h) (in-zone n ts hs _ (name-in named-proper (zone-in n ts hs v h)))
+
+  -- each of the names of all components is a zone
+  pub top-zone : (j : ℕ) → j < m → top-at w n j < n
+  top-zone j h = in-zone n ts hs (top-at w n j) (N .ordered .own j h .0)
+
+  -- a search can go along the rows
+  pub named-laid : Laid w n (starts-at n) (rows-at n) 0 n
+  named-laid =
+      arranged-laid w n (starts-at n) (rows-at n) 0 n (arcs-of ts hs) (N .rows) (arcs-within n ts hs (N .fine))
+      (N .fine .high) (omega arith) (omega arith)
+      (omega (arith, arcs-length ts hs (N .fine .paired), N .room, N .fine .low))
+
+  -- a run along the rows is a reach
+  pub way-reach : {a b : ℕ} → Way w n a b → Reach (handed n ts hs) a b
+  unfolding handed
+  way-reach r = run-reach w n (starts-at n) (rows-at n) (arcs-of ts hs) (N .rows) r
+
+  -- a reach is a run along the rows
+  pub reach-way : {a b : ℕ} → Reach (handed n ts hs) a b → Way w n a b
+  unfolding handed
+  reach-way r = reach-run w n (starts-at n) (rows-at n) (arcs-of ts hs) (N .rows) (arcs-within n ts hs (N .fine)) r

@@ -1,0 +1,4 @@
+-- What marking the arcs that cross from one component to another asks and leaves.
+pub mod Named
+pub mod Direct
+pub mod Choosing

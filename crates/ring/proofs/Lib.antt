@@ -1,0 +1,3 @@
+-- Laws of the rings of components.
+mod Marking
+pub mod Following

@@ -1,0 +1,2 @@
+-- What marking the arcs inside a component asks and leaves.
+pub mod Ring

@@ -1,0 +1,7 @@
+-- Laws of the call `skeleton`.
+mod Puts
+mod Zone
+mod Zones
+mod Answering
+mod Sketching
+pub mod Outcomes

@@ -1,0 +1,83 @@
+-- `skeleton::put` meets its contract: an arc whose head has no mark is left out, and any other is stored. Assumes nothing.
+use borrow.Author.Needs.{needs}
+use native.Mathlib.Omega.{arith}
+use Rattle.skeleton.proofs.Puts.{put-miss, put-hit, hit-room}
+use Rattle.skeleton.proofs.put.Statement.{statement}
+use Rattle.skeleton.proofs.put.Tie as tie
+
+mul-if1 : tie.Need-mul-if1
+mul-if1 c = search needs
+
+add-if1 : tie.Need-add-if1
+add-if1 c = search needs
+
+mul-if1-2 : tie.Need-mul-if1-2
+mul-if1-2 c = search needs
+
+shared-slice-read-if1 : tie.Need-shared-slice-read-if1
+shared-slice-read-if1 c = search needs
+
+returns : tie.Need-returns
+returns c =
+    let a = c .before .before .args in
+    put-miss (a .work .now) (a .zones) (a .a) (a .b) (a .tails .now) (a .heads .now) (a .at) (c .if1 .taken)
+
+cast-tails : tie.Need-cast-tails
+cast-tails c = search needs
+
+mul-tails : tie.Need-mul-tails
+mul-tails c = search needs
+
+slice-write-tails : tie.Need-slice-write-tails
+slice-write-tails c =
+    let s = c .before .before in
+    let a = s .args in
+    hit-room (a .work .now) (a .zones) (a .a) (a .b) (a .tails .now) (a .heads .now) (a .at) (c .if1 .left) (s .pre .1 .1)
+    .0
+
+cast-heads : tie.Need-cast-heads
+cast-heads c = search needs
+
+mul-heads : tie.Need-mul-heads
+mul-heads c = search needs
+
+slice-write-heads : tie.Need-slice-write-heads
+slice-write-heads c =
+    let s = c .before .before in
+    let a = s .args in
+    hit-room (a .work .now) (a .zones) (a .a) (a .b) (a .tails .now) (a .heads .now) (a .at) (c .if1 .left) (s .pre .1 .1)
+    .1
+
+add-result : tie.Need-add-result
+add-result c = search needs
+
+same-length : tie.Need-same-length
+same-length c = search needs
+
+same-length-2 : tie.Need-same-length-2
+same-length-2 c = search needs
+
+returns-2 : tie.Need-returns-2
+returns-2 c =
+    let a = c .before .before .args in
+    put-hit (a .work .now) (a .zones) (a .a) (a .b) (a .tails .now) (a .heads .now) (a .at) (c .if1 .left)
+
+pub put-spec : {M : Type 1} → statement M
+put-spec =
+    tie.close
+    (tie.spec
+    mul-if1
+    add-if1
+    mul-if1-2
+    shared-slice-read-if1
+    returns
+    cast-tails
+    mul-tails
+    slice-write-tails
+    cast-heads
+    mul-heads
+    slice-write-heads
+    add-result
+    same-length
+    same-length-2
+    returns-2)
