@@ -16,7 +16,7 @@ use Rattle.rules.specs.Lists.{run, keep, over}
 use Rattle.rules.specs.Network.{Arc, _⟶_}
 use Rattle.theory.proofs.Ground.Bools.{false-not}
 use Rattle.theory.proofs.Ground.Lists.{keep-hit, keep-miss}
-use Rattle.theory.proofs.SkeletonRows.{pair-row, row-more, row-few}
+use Rattle.theory.proofs.Skeletons.SkeletonRows.{pair-row, row-more, row-few}
 use Rattle.rows.proofs.Stores.{sets-append}
 use Rattle.skeleton.specs.Putting.{marked-arc, Roomy, Put}
 

@@ -21,7 +21,7 @@ use Rattle.theory.proofs.Ground.Bools.{bool-agree, or-else-true, true-or-else, 
 use Rattle.theory.proofs.Ground.Lists.{keep-agree}
 use Rattle.theory.proofs.Ground.Ascending.{run-in}
 use Rattle.theory.proofs.Skeletons.SkeletonLaws.{row-in}
-use Rattle.theory.proofs.SkeletonRows.{pair-row}
+use Rattle.theory.proofs.Skeletons.SkeletonRows.{pair-row}
 use Rattle.rows.specs.Marks.{Marked}
 use Rattle.search.specs.Marking.{Clear}
 use Rattle.network.proofs.Memory.{cleared-length, cleared-behind, cleared-front, front-zero}

@@ -12,7 +12,7 @@ use Rattle.rules.specs.Network.{Network}
 use Rattle.rules.specs.Skeleton.{in-skeleton, skeleton}
 use Rattle.rules.specs.Calls.{arcs-of, handed}
 use Rattle.theory.proofs.Skeletons.SkeletonLeast.{skeleton-short}
-use Rattle.theory.proofs.SkeletonRows.{rows-none, rows-next, rows-few, skeleton-rows}
+use Rattle.theory.proofs.Skeletons.SkeletonRows.{rows-none, rows-next, rows-few, skeleton-rows}
 use Rattle.rows.proofs.ArcRows.{arcs-length}
 use Rattle.crossings.specs.Named.{Named}
 use Rattle.crossings.proofs.NamedLaws.{named-kept, named-proper}

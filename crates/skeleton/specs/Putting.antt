@@ -16,7 +16,7 @@ use Rattle.rules.specs.Lists.{run, keep}
 use Rattle.rules.specs.Network.{Arc, Network}
 use Rattle.rules.specs.Skeleton.{in-skeleton}
 use Rattle.rules.specs.Calls.{handed}
-use Rattle.theory.proofs.SkeletonRows.{pair-row, pair-rows}
+use Rattle.theory.proofs.Skeletons.SkeletonRows.{pair-row, pair-rows}
 
 -- whether the head of an arc has a mark
 abbrev pub marked-arc : List ℕ → ℕ → Arc → Bool

@@ -8,7 +8,7 @@ ghost use Rattle.rules.specs.Lists.{keep, run};
 ghost use Rattle.rules.specs.Network.{_⟶_};
 ghost use Rattle.rules.specs.Calls.{first-trouble, network-tests, room-test, asked-work, handed};
 ghost use Rattle.tests.specs.Tested.{tested-trouble};
-ghost use Rattle.theory.proofs.SkeletonRows.{pair-row};
+ghost use Rattle.theory.proofs.Skeletons.SkeletonRows.{pair-row};
 ghost use Rattle.crossings.specs.Named.{Named};
 ghost use Rattle.skeleton.specs.Putting.{marked-arc, Markable, Roomy, Put, skeleton-row, Zone-put, Rows-put};
 ghost use Rattle.skeleton.specs.Promises.{Sketchable, Sketched, Skeleton-promise};

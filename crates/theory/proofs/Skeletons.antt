@@ -6,3 +6,4 @@ pub mod Alike
 pub mod SkeletonSame
 pub mod SkeletonLeast
 pub mod SkeletonOrder
+pub mod SkeletonRows

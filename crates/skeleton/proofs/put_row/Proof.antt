@@ -5,7 +5,7 @@ use native.Mathlib.Omega.{arith}
 use Prim.Native.Nat.{_≤_, _-_}
 use mathlib.Core.Path.{_≡_}
 use Rattle.rules.specs.Lists.{run, keep}
-use Rattle.theory.proofs.SkeletonRows.{pair-row}
+use Rattle.theory.proofs.Skeletons.SkeletonRows.{pair-row}
 use Rattle.skeleton.specs.Putting.{marked-arc, Put}
 use Rattle.skeleton.proofs.Puts.{put-none, put-long, row-room, row-turn}
 use Rattle.skeleton.proofs.put_row.Statement.{statement}
