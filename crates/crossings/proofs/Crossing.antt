@@ -122,12 +122,9 @@ module _ (w : List ℕ) (n : ℕ) (ts hs : List ℕ) (m : ℕ) (N : Named w n ts
           record {
             named = rw same at (name-name proper (zone-in n ts hs h th));
             other = l .leads .other;
-            arc = (
-              t ⟶ h,
-              arc-at (l .at) (l .high),
-              with-name t a (N .fine .tails (l .at) (l .high)) (l .leads .from),
-              with-name h d th (l .leads .to),
-            );
+            arc =
+                (t ⟶ h, arc-at (l .at) (l .high), with-name t a (N .fine .tails (l .at) (l .high)) (l .leads .from),
+                  with-name h d th (l .leads .to));
           }
 
       -- the index of an arc of the network

@@ -48,7 +48,7 @@ fn mark(tails: &[u16], heads: &[u16], work: &mut [u16], zones: usize)
 }
 
 // 1 where z is a name with x in the region of what is entered and y in the region of what is left, else 0.
-fn kind(work: &[u16], zones: usize, z: usize, x: u16, y: u16) -> usize
+pub fn kind(work: &[u16], zones: usize, z: usize, x: u16, y: u16) -> usize
     requires { ⌜ Room (now work) zones × (z < zones) ⌝ }
     ensures { λ r. ⌜ r ≡ one (own-kind (now (work .entry)) zones x y z) ⌝ }
 {

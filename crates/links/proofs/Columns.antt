@@ -21,7 +21,7 @@ use Rattle.links.specs.declared.Counts.{Counts}
 use Rattle.links.specs.declared.Places.{Places}
 use Rattle.links.specs.Stores.{Copied, Joinable, Joined}
 use Rattle.links.specs.Linking.{Linkable}
-use Rattle.links.proofs.Runs.{sets-above, part-sets, holds-sets, holds-more}
+use Rattle.rows.proofs.Stores.{drop-sets, part-sets, holds-sets, holds-more}
 use Rattle.links.proofs.Shapes.{joins, joins-start, joins-end, joins-why, joins-long}
 
 -- where a link starts, where it ends, and the number of its why
@@ -218,9 +218,9 @@ module _ (w : List ℕ) (zones : ℕ) (n : Counts) (p : Places) (L : Linkable w 
       -- what lies behind the whys is as it was
       behind-put : drop (p .why + zones) three ≡ drop (p .why + zones) v
       behind-put =
-          sets-above two (p .why + length ls) (whys ms) (p .why + zones) (omega (arith, length-map ms why-of))
-          ∙ sets-above one (p .end + length ls) (ends ms) (p .why + zones) (omega (arith, end-low, length-map ms end-of))
-          ∙ sets-above u (p .start + length ls) (starts ms) (p .why + zones)
+          drop-sets two (p .why + length ls) (whys ms) (p .why + zones) (omega (arith, length-map ms why-of))
+          ∙ drop-sets one (p .end + length ls) (ends ms) (p .why + zones) (omega (arith, end-low, length-map ms end-of))
+          ∙ drop-sets u (p .start + length ls) (starts ms) (p .why + zones)
           (omega (arith, start-low, length-map ms start-of))
           ∙ W .behind
 

@@ -19,7 +19,7 @@ use Rattle.links.specs.declared.Counts.{Counts}
 use Rattle.links.specs.declared.Places.{Places}
 use Rattle.links.specs.Stores.{Copied}
 use Rattle.links.specs.Linking.{couples, ordering-in, alone-in, stations-in, first-at, Placed, Stationed}
-use Rattle.links.proofs.Runs.{sets-append, sets-above}
+use Rattle.rows.proofs.Stores.{sets-append, drop-sets}
 use Rattle.links.proofs.Shapes.{couples-v, last-sink-drop, first-of-take}
 
 -- the front of one element of a part, where it has one
@@ -73,7 +73,7 @@ piece-more : (w w₁ w₂ : List ℕ) (st : ℕ) (xs : List ℕ) (from n to : �
 piece-more w w₁ w₂ st xs from n to at low e C =
     let kept : part w₁ from n ≡ part w from n =
     part-kept w w₁ from from n (omega arith)
-    (ap (λ (l : List ℕ). drop from l) e ∙ sets-above w st xs from (omega arith))
+    (ap (λ (l : List ℕ). drop from l) e ∙ drop-sets w st xs from (omega arith))
     in
     C .is
     ∙ ap (λ (l : List ℕ). sets w₁ to l) kept

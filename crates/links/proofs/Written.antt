@@ -18,7 +18,7 @@ use Rattle.links.specs.declared.Places.{Places}
 use Rattle.links.specs.Stores.{Joinable, Joined}
 use Rattle.links.specs.Linking.{couples, ordering-in, alone-in, stations-in, links-in}
 use Rattle.links.specs.Linking.{Placed, Stationed, Linkable, Linked}
-use Rattle.links.proofs.Runs.{sets-above, sets-holds}
+use Rattle.rows.proofs.Stores.{drop-sets, sets-holds}
 use Rattle.links.proofs.Shapes.{rings-joins, chains-joins, backs-joins}
 use Rattle.links.proofs.Pieces.{as-many, stations-long}
 use Rattle.links.proofs.Columns.{Row-of, row-joins, Inside, Wrote, wrote-none, wrote-more, joinable}
@@ -53,7 +53,7 @@ module _
     pub above : (at : ℕ) → p .stations + 2 * zones ≤ at → drop at w' ≡ drop at w
     above at low =
         ap (λ (l : List ℕ). drop at l) (S .is)
-        ∙ sets-above w (p .stations) (stations-in w n p) at (omega (arith, room, S .count))
+        ∙ drop-sets w (p .stations) (stations-in w n p) at (omega (arith, room, S .count))
 
     -- a part behind the stretch is as it was
     kept : (at k : ℕ) → p .stations + 2 * zones ≤ at → part w' at k ≡ part w at k

@@ -33,10 +33,9 @@ mark-crossings-requires : tie.Need-mark-crossings-requires
 mark-crossings-requires c κs =
     let s = c .before .before .before .before .before .before .before .before .before .before in
     let a = s .args in
-    rw (c .before .before .before .clear .ensures) (
-      zone-named (a .work .now) (a .zones) (a .tails .now) (a .heads .now) (a .names) (s .pre .0),
-      (zone-clear (a .work .now) (a .zones) (a .tails .now) (a .heads .now) (a .names) (s .pre .0), s .pre .1 .0),
-    )
+    rw (c .before .before .before .clear .ensures)
+    (zone-named (a .work .now) (a .zones) (a .tails .now) (a .heads .now) (a .names) (s .pre .0),
+      (zone-clear (a .work .now) (a .zones) (a .tails .now) (a .heads .now) (a .names) (s .pre .0), s .pre .1 .0))
 
 mark-ring-requires : tie.Need-mark-ring-requires
 mark-ring-requires c κs = search needs

@@ -1,0 +1,3 @@
+-- Laws of listing names.
+pub mod Turns
+pub mod Whole

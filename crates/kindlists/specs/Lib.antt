@@ -1,0 +1,2 @@
+-- What the contracts of the lists of names say.
+pub mod Lists

@@ -1,0 +1,183 @@
+-- What PLAN's promise means, from the theorems about the plan.
+--   plan-outcomes-equal   any two outcomes that the promise allows are equal
+--   values N              s, t, q, p and the number of links, as an answer carries them
+--   put-out m fs ts       the arcs of the first m elements of two lists: the links as the call puts them out
+--   put-out-plan          what the call puts out are the plan's links
+--   put-out-strong        with them the network is strong;  put-out-fewest   no smaller set of arcs makes it so
+--   put-out-distinct      each joins two distinct zones
+--   put-out-none          a strong network gets no link, and the lent lists stay as they came
+--   same-skeleton-outputs networks with the same zones and the same skeleton get the same answer and the same links
+-- All but the first speak of an input that has no trouble. Assumes nothing.
+use mathlib.Core.Path.{_≡_, refl, sym, ap, ap₂, _∙_}
+use mathlib.Core.Logic.{_≢_}
+use mathlib.Core.Bool.{true}
+use mathlib.Core.Option.{none}
+use mathlib.Core.List.{List, [], _∷_, map, zipWith, List·Memᴰ as In}
+use Prim.Native.Nat.{ℕ, _≤_}
+use native.Mathlib.Omega.{arith}
+use lib.ListN.{length, take, drop, length-map}
+use lib.Seq.{take-at}
+use Rattle.rules.specs.declared.PlanAnswer.{PlanAnswer}
+use Rattle.rules.specs.Lists.{over}
+use Rattle.rules.specs.Answers.{Told, done, plan-told}
+use Rattle.rules.specs.Network.{Arc, _⟶_, Network, added, Proper, Strong, strong}
+use Rattle.rules.specs.Components.{sources, sinks, alone}
+use Rattle.rules.specs.Skeleton.{skeleton}
+use Rattle.rules.specs.Plan.{Link, link-arc, why-number, plan, plan-pairs, plan-need}
+use Rattle.rules.specs.Calls.{arcs-of, handed, plan-trouble, plan-says}
+use Rattle.rules.specs.Calls.{plan-leaves-work, plan-leaves-from, plan-leaves-to, plan-leaves-why}
+use Rattle.tests.proofs.Fine.{fine-proper}
+use Rattle.theory.proofs.Ground.Lists.{map-in}
+use Rattle.theory.proofs.Reaching.Reach.{strong-complete}
+use Rattle.theory.proofs.Reaching.Components.{names-zone}
+use Rattle.theory.proofs.Planning.Fewest.{need-fewest}
+use Rattle.theory.proofs.Planning.PlanStrong.{plan-of-strong, plan-strong}
+use Rattle.theory.proofs.Planning.PlanCount.{plan-length, plan-ends}
+use Rattle.theory.proofs.Planning.PlanSame.{SamePlan, plan-of-skeleton}
+use Rattle.theory.proofs.Files.AnswerLaws.{plan-told-once}
+use Rattle.plan.specs.Promise.{Plan-promise}
+use Rattle.plan.proofs.Answering.{tests-plannable}
+
+-- any two outcomes of PLAN are equal: the answer, the work memory and the three lists
+pub plan-outcomes-equal : (n : ℕ) (ts hs w from to why : List ℕ) {a b : PlanAnswer}
+    {w₁ w₂ f₁ f₂ t₁ t₂ y₁ y₂ : List ℕ} → Plan-promise n ts hs w from to why a w₁ f₁ t₁ y₁ →
+    Plan-promise n ts hs w from to why b w₂ f₂ t₂ y₂ →
+    (a ≡ b) × (w₁ ≡ w₂) × (f₁ ≡ f₂) × (t₁ ≡ t₂) × (y₁ ≡ y₂)
+plan-outcomes-equal n ts hs w from to why {a} {b} p q = (
+  plan-told-once a b (p .says ∙ sym (q .says)),
+  p .work-left ∙ sym (q .work-left),
+  p .from-left ∙ sym (q .from-left),
+  p .to-left ∙ sym (q .to-left),
+  p .why-left ∙ sym (q .why-left),
+)
+
+-- the arcs of the first m elements of two lists
+abbrev pub put-out : ℕ → List ℕ → List ℕ → List Arc
+put-out m fs ts = arcs-of (take m fs) (take m ts)
+
+-- the arcs of the starts and the ends of links are the links' arcs
+columns-arcs : (ls : List Link) →
+    arcs-of (map (λ (l : Link). l .start) ls) (map (λ (l : Link). l .end) ls) ≡ map link-arc ls
+unfolding arcs-of zipWith
+columns-arcs [] = refl
+columns-arcs (l ∷ ls) = ap {B = List Arc} (λ es. (l .start ⟶ l .end) ∷ es) (columns-arcs ls)
+
+-- a result put over a list is its front
+front-of : (m : ℕ) (xs l : List ℕ) → length xs ≡ m → take m (over xs l) ≡ xs
+front-of m xs l e = take-at xs (drop (length xs) l) m e
+
+-- what an answer carries
+abbrev pub values : Network → Told
+values M = done (length (sources M) ∷ length (sinks M) ∷ length (alone M) ∷ plan-pairs M ∷ plan-need M ∷ [])
+
+-- an input without a trouble, and an outcome of the call for it
+module _
+    (n : ℕ)
+    (ts hs w from to why : List ℕ)
+    (fine : plan-trouble n ts hs w from to why ≡ none)
+    (r : PlanAnswer)
+    (w' from' to' why' : List ℕ)
+    (P : Plan-promise n ts hs w from to why r w' from' to' why')
+  where
+    -- the network that was handed in
+    abbrev N : Network
+    N = handed n ts hs
+
+    -- it is proper
+    proper : Proper N
+    proper = fine-proper n ts hs (tests-plannable n ts hs w from to why fine .ready .fine)
+
+    -- the answer carries s, t, q, p and the number of links
+    pub told : plan-told r ≡ values N
+    unfolding plan-says
+    told = rw fine at (P .says)
+
+    -- the links' starts, ends and whys are put over what was lent
+    from-is : from' ≡ over (map (λ (l : Link). l .start) (plan N)) from
+    unfolding plan-leaves-from
+    from-is = rw fine at (P .from-left)
+
+    to-is : to' ≡ over (map (λ (l : Link). l .end) (plan N)) to
+    unfolding plan-leaves-to
+    to-is = rw fine at (P .to-left)
+
+    why-is : why' ≡ over (map (λ (l : Link). why-number (l .why)) (plan N)) why
+    unfolding plan-leaves-why
+    why-is = rw fine at (P .why-left)
+
+    -- what the call puts out are the plan's links
+    pub put-out-plan : put-out (plan-need N) from' to' ≡ map link-arc (plan N)
+    put-out-plan =
+        let count : length (plan N) ≡ plan-need N = plan-length proper in
+        let starts : List ℕ = map (λ (l : Link). l .start) (plan N) in
+        let ends : List ℕ = map (λ (l : Link). l .end) (plan N) in
+        ap₂ arcs-of
+        (ap (λ (l : List ℕ). take (plan-need N) l) from-is
+        ∙ front-of (plan-need N) starts from (length-map (plan N) (λ (l : Link). l .start) ∙ count))
+        (ap (λ (l : List ℕ). take (plan-need N) l) to-is
+        ∙ front-of (plan-need N) ends to (length-map (plan N) (λ (l : Link). l .end) ∙ count))
+        ∙ columns-arcs (plan N)
+
+    -- with what the call puts out the network is strong
+    pub put-out-strong : Strong (added N (put-out (plan-need N) from' to'))
+    put-out-strong = rw put-out-plan (plan-strong proper)
+
+    -- no smaller set of arcs makes it strong
+    pub put-out-fewest : (es : List Arc) → Strong (added N es) →
+        length (put-out (plan-need N) from' to') ≤ length es
+    put-out-fewest es S =
+        omega (
+          arith,
+          ap length put-out-plan ∙ length-map (plan N) link-arc ∙ plan-length proper,
+          need-fewest proper es S,
+        )
+
+    -- each link that the call puts out joins two distinct zones
+    pub put-out-distinct : (e : Arc) → In e (put-out (plan-need N) from' to') →
+        In (e .tail) (N .zones) × In (e .head) (N .zones) × (e .tail ≢ e .head)
+    put-out-distinct e i =
+        let l = map-in link-arc (plan N) (rw put-out-plan at i) in
+        let k = plan-ends proper (l .0) (l .1) in
+        rw (l .2) (names-zone N (k .0) .0, names-zone N (k .1) .0, k .2)
+
+    -- a strong network gets no link, and the lent lists stay as they came
+    pub put-out-none : Strong N → (from' ≡ from) × (to' ≡ to) × (why' ≡ why)
+    put-out-none S =
+        let empty : plan N ≡ [] = plan-of-strong N (strong-complete proper S) in
+        (rw empty at from-is, rw empty at to-is, rw empty at why-is)
+
+-- it is the same where the plan is
+values-same : (M K : Network) → SamePlan M K → values M ≡ values K
+values-same M K S = cc
+
+-- networks of as many zones have the same zones
+zones-same : (n : ℕ) (ts hs ts₂ hs₂ : List ℕ) → handed n ts hs .zones ≡ handed n ts₂ hs₂ .zones
+unfolding handed
+zones-same n ts hs ts₂ hs₂ = refl
+
+-- networks with the same zones and the same skeleton get the same answer and the same links in the same lists
+pub same-skeleton-outputs : (n : ℕ) (ts hs w ts₂ hs₂ w₂ from to why : List ℕ) →
+    plan-trouble n ts hs w from to why ≡ none → plan-trouble n ts₂ hs₂ w₂ from to why ≡ none →
+    skeleton (handed n ts hs) ≡ skeleton (handed n ts₂ hs₂) → (a b : PlanAnswer)
+    (u v f₁ f₂ t₁ t₂ y₁ y₂ : List ℕ) → Plan-promise n ts hs w from to why a u f₁ t₁ y₁ →
+    Plan-promise n ts₂ hs₂ w₂ from to why b v f₂ t₂ y₂ → (a ≡ b) × (f₁ ≡ f₂) × (t₁ ≡ t₂) × (y₁ ≡ y₂)
+same-skeleton-outputs n ts hs w ts₂ hs₂ w₂ from to why e f s a b u v f₁ f₂ t₁ t₂ y₁ y₂ P Q =
+    let S : SamePlan (handed n ts hs) (handed n ts₂ hs₂) =
+    plan-of-skeleton (proper n ts hs w from to why e a u f₁ t₁ y₁ P) (proper n ts₂ hs₂ w₂ from to why f b v f₂ t₂ y₂ Q)
+    (zones-same n ts hs ts₂ hs₂) s
+    in
+    let links = S .same-plan in (
+      plan-told-once a b
+          (told n ts hs w from to why e a u f₁ t₁ y₁ P
+          ∙ values-same (handed n ts hs) (handed n ts₂ hs₂) S
+          ∙ sym (told n ts₂ hs₂ w₂ from to why f b v f₂ t₂ y₂ Q)),
+      from-is n ts hs w from to why e a u f₁ t₁ y₁ P
+          ∙ ap (λ (ls : List Link). over (map (λ (l : Link). l .start) ls) from) links
+          ∙ sym (from-is n ts₂ hs₂ w₂ from to why f b v f₂ t₂ y₂ Q),
+      to-is n ts hs w from to why e a u f₁ t₁ y₁ P
+          ∙ ap (λ (ls : List Link). over (map (λ (l : Link). l .end) ls) to) links
+          ∙ sym (to-is n ts₂ hs₂ w₂ from to why f b v f₂ t₂ y₂ Q),
+      why-is n ts hs w from to why e a u f₁ t₁ y₁ P
+          ∙ ap (λ (ls : List Link). over (map (λ (l : Link). why-number (l .why)) ls) why) links
+          ∙ sym (why-is n ts₂ hs₂ w₂ from to why f b v f₂ t₂ y₂ Q),
+    )

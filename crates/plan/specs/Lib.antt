@@ -1,0 +1,4 @@
+-- What the contracts of the plan say.
+pub mod Survey
+pub mod Connect
+pub mod Promise

@@ -1,0 +1,73 @@
+use borrow.Author.Needs.{needs}
+use native.Mathlib.Omega.{arith}
+use Rattle.skeleton_run.proofs.show_arcs.Statement.{statement}
+use Rattle.skeleton_run.proofs.show_arcs.Tie as tie
+
+abbrev Inv-loop : tie.InvT-loop
+Inv-loop from to i₀ i = ?
+
+abbrev μ-loop : tie.MeasureT-loop
+μ-loop from to i₀ i = ?
+
+loop-holds : tie.Need-loop-holds Inv-loop μ-loop
+loop-holds c = ?
+
+returns : tie.Need-returns Inv-loop μ-loop
+returns c = ?
+
+mul-if2 : tie.Need-mul-if2 Inv-loop μ-loop
+mul-if2 c = ?
+
+shared-slice-read-if2 : tie.Need-shared-slice-read-if2 Inv-loop μ-loop
+shared-slice-read-if2 c = ?
+
+returns-2 : tie.Need-returns-2 Inv-loop μ-loop
+returns-2 c = ?
+
+mul-show-arc : tie.Need-mul-show-arc Inv-loop μ-loop
+mul-show-arc c = ?
+
+shared-slice-read-show-arc : tie.Need-shared-slice-read-show-arc Inv-loop μ-loop
+shared-slice-read-show-arc c = ?
+
+mul-show-arc-2 : tie.Need-mul-show-arc-2 Inv-loop μ-loop
+mul-show-arc-2 c = ?
+
+shared-slice-read-show-arc-2 : tie.Need-shared-slice-read-show-arc-2 Inv-loop μ-loop
+shared-slice-read-show-arc-2 c = ?
+
+show-arc-requires : tie.Need-show-arc-requires Inv-loop μ-loop
+show-arc-requires c κs = ?
+
+add-i : tie.Need-add-i Inv-loop μ-loop
+add-i c = ?
+
+loop-less : tie.Need-loop-less Inv-loop μ-loop
+loop-less c = ?
+
+loop-again : tie.Need-loop-again Inv-loop μ-loop
+loop-again c = ?
+
+returns-3 : tie.Need-returns-3 Inv-loop μ-loop
+returns-3 c = ?
+
+pub show-arcs-spec : {M : Type 1} → statement M
+show-arcs-spec =
+    tie.close
+    (tie.spec
+    Inv-loop
+    μ-loop
+    loop-holds
+    returns
+    mul-if2
+    shared-slice-read-if2
+    returns-2
+    mul-show-arc
+    shared-slice-read-show-arc
+    mul-show-arc-2
+    shared-slice-read-show-arc-2
+    show-arc-requires
+    add-i
+    loop-less
+    loop-again
+    returns-3)

@@ -1,0 +1,249 @@
+// Runs `skeleton`: document 01's case J, skeletons of skeletons, repeats, one component of all zones, no arcs, the largest
+// sizes, and every refusal. A line has the label, the number, the place, the arc count, the arcs that were put, and how
+// many elements of the work memory are not zero then. Of long lists it has how many elements were put, and their sum.
+ghost use Prim.Native.Nat.{_≤_};
+use rules::Kind;
+use rules::SkeletonAnswer;
+use rules::Trouble;
+use skeleton::skeleton;
+
+// What the lent lists hold before: no zone has this number.
+const UNUSED: u16 = 65535;
+
+// The number of a kind of refusal.
+fn kind_number(kind: Kind) -> u64 {
+    match kind {
+        Kind::Short => 1,
+        Kind::Long => 2,
+        Kind::Loose => 3,
+        Kind::Zones => 4,
+        Kind::Arcs => 5,
+        Kind::Range => 6,
+        Kind::SelfArc => 7,
+        Kind::Extra => 8,
+        Kind::Room => 9,
+        Kind::Pair => 10,
+    }
+}
+
+// A space and a number.
+fn show(n: u64) {
+    io::write_all(1, b" ");
+    io::print_decimal(1, n);
+}
+
+// What a refusal says: its number, its place, and no value.
+fn show_trouble(t: Trouble) {
+    let kind = t.kind;
+    let place = t.place;
+    show(kind_number(kind));
+    show(place as u64);
+    show(0);
+}
+
+// What the answer says.
+fn show_answer(answer: SkeletonAnswer) {
+    match answer {
+        SkeletonAnswer::Done { arcs } => {
+            show(0);
+            show(0);
+            show(arcs as u64);
+        }
+        SkeletonAnswer::Refused(t) => show_trouble(t),
+    }
+}
+
+// How many elements are not `x`.
+fn others(list: &[u16], x: u16) -> u64 {
+    let mut n = 0;
+    let mut i = 0;
+    while i < list.len() {
+        if list[i] != x {
+            n += 1;
+        }
+        i += 1;
+    }
+    n
+}
+
+// The sum of the first `upto` elements, or of all where there are fewer.
+fn sum(list: &[u16], upto: u64) -> u64 {
+    let mut total = 0;
+    let mut i = 0;
+    while i < list.len() {
+        if upto <= i as u64 {
+            return total;
+        }
+        total += list[i] as u64;
+        i += 1;
+    }
+    total
+}
+
+// How many elements of a list were put, and their sum.
+fn show_sum(list: &[u16]) {
+    let n = others(list, UNUSED);
+    show(n);
+    show(sum(list, n));
+}
+
+// One arc.
+fn show_arc(tail: u16, head: u16) {
+    show(tail as u64);
+    io::write_all(1, b"-");
+    io::print_decimal(1, head as u64);
+}
+
+// The arcs that were put.
+fn show_arcs(from: &[u16], to: &[u16]) {
+    let mut i = 0;
+    while i < from.len() {
+        if to.len() <= i {
+            return;
+        }
+        if from[i] == UNUSED {
+            return;
+        }
+        show_arc(from[i], to[i]);
+        i += 1;
+    }
+}
+
+// The arcs that were put, or for long lists their number and their sums.
+fn show_lists(from: &[u16], to: &[u16]) {
+    if from.len() <= 16 {
+        show_arcs(from, to);
+        return;
+    }
+    show_sum(from);
+    show_sum(to);
+}
+
+// Asks SKELETON, and prints a line.
+fn ask(
+    label: &[u8],
+    zones: usize,
+    tails: &[u16],
+    heads: &[u16],
+    from: &mut [u16],
+    to: &mut [u16],
+    work: &mut [u16],
+) {
+    io::write_all(1, label);
+    io::write_all(1, b":");
+    let answer = skeleton(zones, tails, heads, from, to, work);
+    show_answer(answer);
+    io::write_all(1, b";");
+    show_lists(from, to);
+    io::write_all(1, b";");
+    show(others(work, 0));
+    io::write_all(1, b"\n");
+}
+
+// Asks with lists of exactly 6 elements and work memory for 4 zones and 6 arcs, one element longer than asked.
+fn small(label: &[u8], zones: usize, tails: &[u16], heads: &[u16]) {
+    let mut from = [UNUSED; 6];
+    let mut to = [UNUSED; 6];
+    let mut work = [7u16; 83];
+    ask(label, zones, tails, heads, &mut from, &mut to, &mut work);
+}
+
+// Document 01's case J, and the skeleton of its skeleton.
+fn case_j() {
+    small(b"case J", 4, &[0, 1, 0, 2, 2, 0], &[1, 2, 2, 1, 3, 3]);
+    small(b"its skeleton", 4, &[0, 1, 1, 2], &[1, 2, 3, 1]);
+}
+
+// Small networks.
+fn networks() {
+    small(b"no arcs", 4, &[], &[]);
+    small(b"one zone", 1, &[], &[]);
+    small(b"one arc, six times", 2, &[0, 0, 0, 0, 0, 0], &[1, 1, 1, 1, 1, 1]);
+    small(b"repeats in any order", 3, &[2, 0, 2, 0, 1, 2], &[1, 2, 1, 2, 0, 1]);
+    small(b"one component of all zones", 4, &[3, 1, 0, 2], &[1, 0, 2, 3]);
+    small(b"its skeleton", 4, &[0, 1, 2, 3], &[1, 2, 3, 0]);
+    small(b"two arcs beside each other", 4, &[0, 0, 1, 2], &[1, 2, 3, 3]);
+    small(b"one past another", 4, &[0, 0, 1, 0, 3], &[3, 1, 3, 2, 2]);
+    small(b"from a component to a lower one", 4, &[2, 3, 3, 1], &[3, 2, 1, 0]);
+}
+
+// Each refusal, and lists of any length.
+fn refusals() {
+    small(b"pair", 4, &[0, 1], &[1]);
+    small(b"no zones", 0, &[], &[]);
+    small(b"too many zones", 1025, &[], &[]);
+    small(b"too many arcs", 2, &[0; 4097], &[1; 4097]);
+    small(b"tail out of range", 3, &[0, 3], &[1, 1]);
+    small(b"head out of range", 3, &[0, 1], &[1, 3]);
+    small(b"self arc", 3, &[0, 1, 2], &[1, 2, 2]);
+    small(b"room for the work", 5, &[0, 1], &[1, 2]);
+    small(b"room for the arcs", 4, &[0, 0, 0, 0, 0, 0, 0], &[1, 1, 1, 1, 1, 1, 1]);
+}
+
+// Lists that are too short by one, though the skeleton would fit.
+fn rooms() {
+    let mut short = [UNUSED; 1];
+    let mut long = [UNUSED; 2];
+    let mut work = [7u16; 38];
+    let tails: &[u16] = &[0, 0];
+    let heads: &[u16] = &[1, 1];
+    ask(b"room for the tails", 2, tails, heads, &mut short, &mut long, &mut work);
+    ask(b"room for the heads", 2, tails, heads, &mut long, &mut short, &mut work);
+    let mut enough = [UNUSED; 2];
+    ask(b"room enough", 2, tails, heads, &mut enough, &mut long, &mut work);
+}
+
+// Arc i goes from i, around 1,020 zones, to a zone 1 to 5 further on.
+fn fill_path(tails: &mut [u16], heads: &mut [u16]) {
+    let mut i = 0;
+    while i < tails.len() {
+        if heads.len() <= i {
+            return;
+        }
+        if 4096 <= i {
+            return;
+        }
+        tails[i] = (i % 1020) as u16;
+        heads[i] = (i % 1020 + i / 1020 + 1) as u16;
+        i += 1;
+    }
+}
+
+// Arc i goes from i, around 1,024 zones, to the next.
+fn fill_ring(tails: &mut [u16], heads: &mut [u16]) {
+    let mut i = 0;
+    while i < tails.len() {
+        if heads.len() <= i {
+            return;
+        }
+        tails[i] = (i % 1024) as u16;
+        heads[i] = ((i + 1) % 1024) as u16;
+        i += 1;
+    }
+}
+
+// 1,024 zones and 4,096 arcs.
+fn largest(label: &[u8], tails: &[u16], heads: &[u16]) {
+    let mut from = [UNUSED; 4096];
+    let mut to = [UNUSED; 4096];
+    let mut work = [7u16; 28672];
+    ask(label, 1024, tails, heads, &mut from, &mut to, &mut work);
+}
+
+// The largest networks.
+fn large() {
+    let mut tails = [0u16; 4096];
+    let mut heads = [0u16; 4096];
+    fill_path(&mut tails, &mut heads);
+    largest(b"1,024 zones in a path, with short cuts", &tails, &heads);
+    fill_ring(&mut tails, &mut heads);
+    largest(b"1,024 zones in a ring, each arc four times", &tails, &heads);
+}
+
+fn main() {
+    case_j();
+    networks();
+    refusals();
+    rooms();
+    large();
+}
