@@ -17,11 +17,11 @@ use Rattle.rows.specs.Regions.{Holds}
 use Rattle.rows.proofs.Stores.{drop-sets, sets-holds, holds-sets}
 use Rattle.order.specs.Memory.{cell}
 use Rattle.kinds.specs.declared.Counts.{Counts}
-use Rattle.kinds.specs.Kinds.{Room, own-kind, Kinds}
+use Rattle.kinds.specs.Kinds.{own-kind, Kinds}
 use Rattle.kinds.proofs.Marks.{names-around, room-around}
 use Rattle.kinds.proofs.Tests.{keep-few}
 use Rattle.kinds.proofs.Rules.{for-marking, sources-count, sinks-count, alone-count}
-use Rattle.kindlists.specs.Lists.{sources-at, sinks-at, alone-at, Listable, Nameable, Listed}
+use Rattle.kindlists.specs.Lists.{Listable, Nameable, Listed}
 use Rattle.kindlists.proofs.Turns.{room-kept, keep-same}
 
 -- names may be put behind the zones' names after others were put
@@ -93,7 +93,8 @@ module _
       pub second-listable : Listable w₂ n (6 * n)
       second-listable =
           rw first-is
-          (listable-next w₁ n (4 * n) (6 * n) (sources M) first-listable sources-few (omega arith) (omega (arith, fits)))
+          (listable-next w₁ n (4 * n) (6 * n) (sources M) first-listable sources-few (omega arith)
+          (omega (arith, fits)))
 
       -- what is of a kind is so still
       second-same : (x y : ℕ) → keep (own-kind w₂ n x y) (run 0 n) ≡ keep (own-kind w₁ n x y) (run 0 n)

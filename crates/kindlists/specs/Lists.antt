@@ -1,6 +1,6 @@
 -- What listing the names of each kind asks for and leaves in lent work memory.
 --   Tryable w n z at    one zone may be put to `at`
---   Listable w n to     names may be put from `to` on: the place lies apart from what is noted and from the zones' names
+--   Listable w n to     names may be put from `to` on: apart from what is noted and from the zones' names
 --   Nameable w ts hs n  the kinds may be found, and there is room for their lists
 --   Listed w w' n N r   the names of each kind stand in w', and r counts them
 use mathlib.Core.Path.{_≡_}

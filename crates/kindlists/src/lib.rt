@@ -1,5 +1,5 @@
-// The names of the sources, of the sinks and of the components alone, as three lists in lent work memory, each ascending.
-// n being the number of zones, they stand from 4 n, from 6 n and from 7 n on.
+// The names of the sources, of the sinks and of the components alone, as three lists in lent work memory, each
+// ascending. n being the number of zones, they stand from 4 n, from 6 n and from 7 n on.
 use kinds::Counts;
 use kinds::find;
 use kinds::kind;

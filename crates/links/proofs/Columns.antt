@@ -1,8 +1,8 @@
--- The links in work memory are three columns: starts, ends and whys. More links behind those that are there, put column by
--- column, make each column longer.
+-- The links in work memory are three columns: starts, ends and whys. More links behind those that are there, put column
+-- by column, make each column longer.
 --   column-more, column-kept   links more in a column; links more in another column
 --   joined                two copies and a fill put n links of one why
---   Row-of v a b n k ls   the links ls go from the n elements of v after a to those after b, and the number of their why is k
+--   Row-of v a b n k ls   the links ls go from the n elements of v after a to those after b, and their why has number k
 --   Inside p a n          the n elements after a lie behind the stations' place and before the whys
 --   Wrote p zones v u ls  u is v with the links ls put, and the same inside and behind the whys
 --   row-joins             a row of elements;  joinable   there is room for it;  wrote-more   it is put
@@ -196,7 +196,8 @@ module _ (w : List ℕ) (zones : ℕ) (n : Counts) (p : Places) (L : Linkable w 
       end-put =
           column-kept two end-of why-of zones (p .end) (p .why) (ls ++ ms) ls ms (inl end-low) all-few few
           (column-more one end-of (p .end) ls ms end-fits
-          (column-kept u end-of start-of zones (p .end) (p .start) ls ls ms (⊎-swap (L .apart)) (omega arith) few (W .end)))
+          (column-kept u end-of start-of zones (p .end) (p .start) ls ls ms (⊎-swap (L .apart)) (omega arith) few
+          (W .end)))
 
       -- then the whys
       why-put : Holds three (p .why) (whys (ls ++ ms))

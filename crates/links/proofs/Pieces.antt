@@ -1,12 +1,12 @@
--- The chain's stations are four pieces of the work memory: the last pair's sink, the surplus sinks, the zones alone, and
--- the first pair's source or the first zone alone. Copied one behind the other they are the stations.
+-- The chain's stations are four pieces of the work memory: the last pair's sink, the surplus sinks, the zones alone,
+-- and the first pair's source or the first zone alone. Copied one behind the other they are the stations.
 --   last-piece, surplus-piece, first-piece   each piece, as the plan rule tells it
 --   stations-pieces   the four pieces together are the stations
 --   piece-more        one piece more behind those that are copied
 --   stationed         four copies put the stations
 -- The idea: a piece lies behind the stretch that changes, so that it is copied as it was at the start. Assumes nothing.
 use mathlib.Core.Path.{_≡_, refl, sym, ap, _∙_}
-use mathlib.Core.List.{List, [], _∷_, _++_, map, append-assoc}
+use mathlib.Core.List.{List, _++_, map, append-assoc}
 use Prim.Native.Nat.{ℕ, zero, suc, _+_, _*_, _-_, _≤_, _<_, min}
 use native.Mathlib.Nat.{zero-add}
 use native.Mathlib.Omega.{arith}
@@ -18,7 +18,7 @@ use Rattle.rows.proofs.Regions.{part-long, part-take, part-drop, part-kept}
 use Rattle.links.specs.declared.Counts.{Counts}
 use Rattle.links.specs.declared.Places.{Places}
 use Rattle.links.specs.Stores.{Copied}
-use Rattle.links.specs.Linking.{couples, ordering-in, alone-in, stations-in, first-at, Placed, Stationed}
+use Rattle.links.specs.Linking.{couples, stations-in, first-at, Placed, Stationed}
 use Rattle.rows.proofs.Stores.{sets-append, drop-sets}
 use Rattle.links.proofs.Shapes.{couples-v, last-sink-drop, first-of-take}
 
@@ -130,7 +130,8 @@ module _ (w : List ℕ) (zones : ℕ) (n : Counts) (p : Places) (P : Placed w zo
 
   -- the length of the last pair's sink
   last-long : length last-part ≡ min 1 (n .pairs)
-  last-long = part-long w (p .w + (n .pairs - min 1 (n .pairs))) (min 1 (n .pairs)) (omega (arith, P .w-fits, P .why-fits))
+  last-long =
+      part-long w (p .w + (n .pairs - min 1 (n .pairs))) (min 1 (n .pairs)) (omega (arith, P .w-fits, P .why-fits))
 
   -- the length of the surplus sinks
   surplus-long : length surplus-part ≡ n .sinks - n .sources
@@ -153,7 +154,8 @@ module _ (w : List ℕ) (zones : ℕ) (n : Counts) (p : Places) (P : Placed w zo
   pub stations-long : length (stations-in w n p)
       ≡ min 1 (n .pairs) + (n .sinks - n .sources) + n .alone + min 1 (n .pairs + n .alone)
   stations-long =
-      ap length (sym stations-pieces) ∙ simp length-append (omega (arith, last-long, surplus-long, alone-long, first-long))
+      ap length (sym stations-pieces)
+      ∙ simp length-append (omega (arith, last-long, surplus-long, alone-long, first-long))
 
   -- four copies put the stations
   pub stationed : (w₁ w₂ w₃ w₄ : List ℕ) (last first start : ℕ) →
@@ -184,9 +186,9 @@ module _ (w : List ℕ) (zones : ℕ) (n : Counts) (p : Places) (P : Placed w zo
       simp length-append (omega (arith, last-long, surplus-long, alone-long))
       in
       let e₄ : w₄ ≡ sets w (p .stations) (((last-part ++ surplus-part) ++ alone-part) ++ first-part) =
-      piece-more w w₃ w₄ (p .stations) ((last-part ++ surplus-part) ++ alone-part) (first-at (n .pairs) (p .v) (p .alone))
-      (min 1 (n .pairs + n .alone)) (p .stations + (last + (n .sinks - n .sources) + n .alone))
-      (omega (arith, abc)) (omega (arith, inside .0, P .room)) e₃ (rw (f, s) at K₄)
+      piece-more w w₃ w₄ (p .stations) ((last-part ++ surplus-part) ++ alone-part)
+      (first-at (n .pairs) (p .v) (p .alone)) (min 1 (n .pairs + n .alone))
+      (p .stations + (last + (n .sinks - n .sources) + n .alone)) (omega (arith, abc)) (omega (arith, inside .0, P .room)) e₃ (rw (f, s) at K₄)
       in
       record {
         count = omega (arith, stations-long, l, f);

@@ -6,12 +6,13 @@
 --   last-sink-drop, first-of-take   the first and the last station
 --   couples-v, couples-w, couples-pairs   pairs, taken apart and put together
 -- The idea: each by going through the lists. Assumes nothing.
-use mathlib.Core.Path.{_≡_, refl, sym, ap, _∙_}
-use mathlib.Core.List.{List, [], _∷_, _++_, map}
-use Prim.Native.Nat.{ℕ, zero, suc, _+_, _-_, _≤_, _<_}
+use mathlib.Core.Path.{_≡_, refl, ap, _∙_}
+use mathlib.Core.List.{List, [], _∷_, map}
+use Prim.Native.Nat.{ℕ, suc, _-_, _≤_}
 use native.Mathlib.Omega.{arith}
 use lib.ListN.{length, take, drop, replicate}
-use Rattle.rules.specs.Plan.{Couple, Why, ring, chain, back, why-number, Link, rings, chains, backs, last-sink, first-of}
+use Rattle.rules.specs.Plan.{Couple, Why, ring, chain, back, why-number, Link}
+use Rattle.rules.specs.Plan.{rings, chains, backs, last-sink, first-of}
 use Rattle.links.specs.Linking.{couples}
 
 -- one link of why y from each of xs to the one of the same place in ys

@@ -2,7 +2,7 @@
 --   part-is      the n elements from `at` on are the list that stands there
 --   links-held   the law
 -- Assumes nothing.
-use mathlib.Core.Path.{_≡_, refl, sym, ap, _∙_}
+use mathlib.Core.Path.{_≡_, sym, ap, _∙_}
 use mathlib.Core.List.{List, map}
 use Prim.Native.Nat.{ℕ}
 use lib.ListN.{length, length-map}
@@ -10,7 +10,7 @@ use Rattle.rules.specs.Plan.{Couple, Ordering, links}
 use Rattle.rows.specs.Regions.{part, Holds}
 use Rattle.links.specs.declared.Counts.{Counts}
 use Rattle.links.specs.declared.Places.{Places}
-use Rattle.links.specs.Linking.{couples, ordering-in, alone-in, links-in, Held}
+use Rattle.links.specs.Linking.{links-in, Held}
 use Rattle.links.proofs.Shapes.{couples-pairs}
 
 -- the n elements from `at` on are the list that stands there

@@ -6,7 +6,7 @@
 -- The idea: the memory still has the ordering's lists and the stations when the links are put. Assumes nothing.
 use mathlib.Core.Path.{_≡_, refl, sym, ap, _∙_}
 use mathlib.Core.List.{List, [], _++_, append-assoc}
-use Prim.Native.Nat.{ℕ, zero, suc, _+_, _*_, _-_, _≤_, min}
+use Prim.Native.Nat.{ℕ, zero, suc, _+_, _*_, _-_, _≤_}
 use native.Mathlib.Omega.{arith}
 use lib.ListN.{length, take, drop, length-append}
 use lib.Seq.{length-sets}
@@ -16,7 +16,7 @@ use Rattle.rows.proofs.Regions.{part-long, part-take, part-drop, part-kept}
 use Rattle.links.specs.declared.Counts.{Counts}
 use Rattle.links.specs.declared.Places.{Places}
 use Rattle.links.specs.Stores.{Joinable, Joined}
-use Rattle.links.specs.Linking.{couples, ordering-in, alone-in, stations-in, links-in}
+use Rattle.links.specs.Linking.{couples, stations-in, links-in}
 use Rattle.links.specs.Linking.{Placed, Stationed, Linkable, Linked}
 use Rattle.rows.proofs.Stores.{drop-sets, sets-holds}
 use Rattle.links.proofs.Shapes.{rings-joins, chains-joins, backs-joins}
@@ -86,7 +86,8 @@ module _
         rw (rings-joins vs ws (as-many w zones n p P))
         (row-joins w' (p .w) (p .v + 1) (n .pairs - 1) ring (take (length ws - 1) ws) (drop 1 vs) from to
         (ap length (sym from) ∙ part-long w' (p .w) (n .pairs - 1) (omega (arith, P .w-fits, P .why-fits, memory-long)))
-        (ap length (sym to) ∙ part-long w' (p .v + 1) (n .pairs - 1) (omega (arith, P .v-fits, P .why-fits, memory-long))))
+        (ap length (sym to)
+        ∙ part-long w' (p .v + 1) (n .pairs - 1) (omega (arith, P .v-fits, P .why-fits, memory-long))))
 
     -- the chain
     chain-row : Row-of w' (p .stations) (p .stations + 1) (m - 1) 1 (chains (stations-in w n p))
@@ -105,7 +106,8 @@ module _
         (ap length (sym from)
         ∙ part-long w' (p .stations) (m - 1) (omega (arith, room, P .w-apart, P .w-fits, P .why-fits, memory-long)))
         (ap length (sym to)
-        ∙ part-long w' (p .stations + 1) (m - 1) (omega (arith, room, P .w-apart, P .w-fits, P .why-fits, memory-long))))
+        ∙ part-long w' (p .stations + 1) (m - 1)
+        (omega (arith, room, P .w-apart, P .w-fits, P .why-fits, memory-long))))
 
     -- the links back
     back-row : Row-of w' (p .sinks) (p .sources) (n .sources) 2
@@ -113,8 +115,12 @@ module _
     back-row =
         let ws : List ℕ = part w (p .sinks) (n .sinks) in
         let vs : List ℕ = part w (p .sources) (n .sources) in
-        let long : length vs ≡ n .sources = part-long w (p .sources) (n .sources) (omega (arith, P .sources-fit, P .why-fits)) in
-        let wide : length ws ≡ n .sinks = part-long w (p .sinks) (n .sinks) (omega (arith, P .sinks-fit, P .why-fits)) in
+        let long : length vs ≡ n .sources =
+        part-long w (p .sources) (n .sources) (omega (arith, P .sources-fit, P .why-fits))
+        in
+        let wide : length ws ≡ n .sinks =
+        part-long w (p .sinks) (n .sinks) (omega (arith, P .sinks-fit, P .why-fits))
+        in
         let from : part w' (p .sinks) (n .sources) ≡ take (length vs) ws =
         kept (p .sinks) (n .sources) (P .sinks-apart) ∙ sym (part-take w (p .sinks) (n .sources) (n .sinks) (P .order))
         ∙ ap (λ (k : ℕ). take k ws) (sym long)
@@ -182,7 +188,8 @@ module _
           let cs = chains (stations-in w n p) in
           let bs = backs (part w (p .sinks) (n .sinks)) (part w (p .sources) (n .sources)) in
           let W₁ : Wrote p zones w' u₁ rs =
-          wrote-more w zones n p L w' w' [] rs memory-long (omega (arith, all-few, ring-row .long)) (wrote-none p zones w')
+          wrote-more w zones n p L w' w' [] rs memory-long (omega (arith, all-few, ring-row .long))
+          (wrote-none p zones w')
           u₁ (p .w) (p .v + 1) r 0 0 (rw er ring-row) (rw er w-inside) (rw er v-inside) refl A
           in
           let W₂ : Wrote p zones w' u₂ (rs ++ cs) =

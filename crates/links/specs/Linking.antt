@@ -1,5 +1,5 @@
--- What putting the links of an ordering asks and leaves. The ordering's lists stand in work memory, where the counts and
--- the places tell.
+-- What putting the links of an ordering asks and leaves. The ordering's lists stand in work memory, where the counts
+-- and the places tell.
 --   couples vs ws       the pairs of a list of sources and a list of sinks
 --   ordering-in, alone-in    the ordering and the zones alone that stand in the memory
 --   stations-in, links-in    its chain's stations, and its links

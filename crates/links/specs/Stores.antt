@@ -1,5 +1,5 @@
--- What copying in work memory and putting links of one why ask and leave. `sets l i xs` is the list l after stores of the
--- elements of xs, one behind the other, from index i on.
+-- What copying in work memory and putting links of one why ask and leave. `sets l i xs` is the list l after stores of
+-- the elements of xs, one behind the other, from index i on.
 --   Copyable, Copied   n elements go to lower places
 --   Joinable, Joined   n links of one why go behind the first `at` links, where the places tell
 use mathlib.Core.Path.{_≡_}

@@ -17,8 +17,8 @@ pub struct Counts {
     pub alone: usize,
 }
 
-// Where each list stands in the work memory, from where on the chain's stations may be put, and from where on the links'
-// starts, ends and whys are put.
+// Where each list stands in the work memory, and from where on the chain's stations and the links' starts, ends and
+// whys are put.
 pub struct Places {
     pub v: usize,
     pub w: usize,

@@ -16,7 +16,7 @@ use Rattle.rules.specs.declared.PlanAnswer.{PlanAnswer}
 use Rattle.rules.specs.Lists.{over, cleared}
 use Rattle.rules.specs.Answers.{trouble-refusal}
 use Rattle.rules.specs.Plan.{Link, why-number, plan}
-use Rattle.rules.specs.Calls.{first-trouble, network-tests, room-test, asked-work, handed, plan-trouble, plan-says}
+use Rattle.rules.specs.Calls.{network-tests, room-test, asked-work, handed, plan-trouble, plan-says}
 use Rattle.rules.specs.Calls.{plan-leaves-work, plan-leaves-from, plan-leaves-to, plan-leaves-why}
 use Rattle.rows.specs.Regions.{part, Holds}
 use Rattle.tests.proofs.Troubles.{passes, both-pass}
@@ -91,10 +91,14 @@ module _ (n : ℕ) (ts hs w from to why : List ℕ) where
         says = rw e (cc);
         from-left =
             rw e
-            (f ∙ ap (λ (l : List ℕ). over l from) (part-is (λ (l : Link). l .start) ls w₁ 0 (r .need) (L .links-are) (L .starts-held)));
+            (f
+            ∙ ap (λ (l : List ℕ). over l from)
+            (part-is (λ (l : Link). l .start) ls w₁ 0 (r .need) (L .links-are) (L .starts-held)));
         to-left =
             rw e
-            (t ∙ ap (λ (l : List ℕ). over l to) (part-is (λ (l : Link). l .end) ls w₁ n (r .need) (L .links-are) (L .ends-held)));
+            (t
+            ∙ ap (λ (l : List ℕ). over l to)
+            (part-is (λ (l : Link). l .end) ls w₁ n (r .need) (L .links-are) (L .ends-held)));
         why-left =
             rw e
             (y

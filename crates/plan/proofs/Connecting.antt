@@ -3,17 +3,17 @@
 --   ordered      the pairing leaves the network's ordering;  pairs-low   no more pairs than sources, or than sinks
 --   linkable     the links may be put;  connected   they are those of the rule for s ≤ t
 -- The lists lie in places of their own, so each step keeps what the next one reads. Assumes nothing.
-use mathlib.Core.Path.{_≡_, refl, sym, ap, _∙_}
+use mathlib.Core.Path.{_≡_, sym, ap, _∙_}
 use mathlib.Core.Logic.{_⊎_, inl, inr, ⊎-elim}
 use mathlib.Core.Bool.{true}
 use mathlib.Core.List.{List, List·Memᴰ as In}
-use Prim.Native.Nat.{ℕ, _+_, _*_, _-_, _≤_, _<_}
+use Prim.Native.Nat.{ℕ, _+_, _*_, _-_, _≤_}
 use native.Mathlib.Omega.{arith}
-use lib.ListN.{length, getD, drop}
+use lib.ListN.{length, getD}
 use borrow.Author.Tests.{le-leb}
 use Rattle.rules.specs.Network.{Arc, Network, network-of, Proper}
 use Rattle.rules.specs.Components.{names, sources, sinks, alone}
-use Rattle.rules.specs.Plan.{Ordering, plan, is-upright, ordering, upright-plan}
+use Rattle.rules.specs.Plan.{is-upright, ordering, upright-plan}
 use Rattle.rows.specs.Regions.{part, Holds}
 use Rattle.rows.proofs.Regions.{holds-apart}
 use Rattle.rows.proofs.ArrangedLaws.{at-in}
@@ -30,7 +30,6 @@ use Rattle.links.specs.declared.Places.{Places as Put-places}
 use Rattle.links.specs.Linking.{links-in, Held, Placed, Linkable, Linked}
 use Rattle.links.proofs.Standing.{links-held}
 use Rattle.plan.specs.declared.Columns.{Columns}
-use Rattle.plan.specs.declared.Connection.{Connection}
 use Rattle.plan.specs.Connect.{Connectable, Connected}
 use Rattle.plan.proofs.Few.{kinds-few, weak-sum, need-few}
 

@@ -10,7 +10,6 @@
 -- All but the first speak of an input that has no trouble. Assumes nothing.
 use mathlib.Core.Path.{_≡_, refl, sym, ap, ap₂, _∙_}
 use mathlib.Core.Logic.{_≢_}
-use mathlib.Core.Bool.{true}
 use mathlib.Core.Option.{none}
 use mathlib.Core.List.{List, [], _∷_, map, zipWith, List·Memᴰ as In}
 use Prim.Native.Nat.{ℕ, _≤_}
@@ -20,12 +19,12 @@ use lib.Seq.{take-at}
 use Rattle.rules.specs.declared.PlanAnswer.{PlanAnswer}
 use Rattle.rules.specs.Lists.{over}
 use Rattle.rules.specs.Answers.{Told, done, plan-told}
-use Rattle.rules.specs.Network.{Arc, _⟶_, Network, added, Proper, Strong, strong}
+use Rattle.rules.specs.Network.{Arc, _⟶_, Network, added, Proper, Strong}
 use Rattle.rules.specs.Components.{sources, sinks, alone}
 use Rattle.rules.specs.Skeleton.{skeleton}
 use Rattle.rules.specs.Plan.{Link, link-arc, why-number, plan, plan-pairs, plan-need}
 use Rattle.rules.specs.Calls.{arcs-of, handed, plan-trouble, plan-says}
-use Rattle.rules.specs.Calls.{plan-leaves-work, plan-leaves-from, plan-leaves-to, plan-leaves-why}
+use Rattle.rules.specs.Calls.{plan-leaves-from, plan-leaves-to, plan-leaves-why}
 use Rattle.tests.proofs.Fine.{fine-proper}
 use Rattle.theory.proofs.Ground.Lists.{map-in}
 use Rattle.theory.proofs.Reaching.Reach.{strong-complete}

@@ -5,7 +5,7 @@
 --   need-few      max(s, t) + q links, or none, are no more than the zones
 --   sum-strong, strong-sum   a network is strong exactly where s + t + q is 1
 -- Assumes nothing.
-use mathlib.Core.Path.{_≡_, refl, sym, ap, _∙_}
+use mathlib.Core.Path.{_≡_, refl, ap, _∙_}
 use mathlib.Core.Logic.{inl, inr}
 use mathlib.Core.Bool.{Bool, true, false, not, _&&_}
 use mathlib.Core.List.{List, [], _∷_}
@@ -15,7 +15,7 @@ use lib.ListN.{length}
 use Rattle.rules.specs.Lists.{run, keep}
 use Rattle.rules.specs.Network.{Arc, Network, network-of, Proper, strong}
 use Rattle.rules.specs.Components.{is-name, names, entered, left, sources, sinks, alone}
-use Rattle.rules.specs.Plan.{plan, plan-need}
+use Rattle.rules.specs.Plan.{plan-need}
 use Rattle.rows.specs.Marks.{one}
 use Rattle.theory.proofs.Ground.Bools.{bool-cases}
 use Rattle.theory.proofs.Ground.Lists.{keep-hit, keep-miss}

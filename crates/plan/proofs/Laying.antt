@@ -8,19 +8,19 @@
 use mathlib.Core.Path.{_≡_, refl, sym, ap, _∙_}
 use mathlib.Core.Logic.{inl, inr}
 use mathlib.Core.Bool.{true, false}
-use mathlib.Core.List.{List, [], map}
+use mathlib.Core.List.{List, [], map, List·Memᴰ as In}
 use Prim.Native.Nat.{ℕ, _+_, _*_, _≤_, _<_}
 use native.Mathlib.Omega.{arith}
 use lib.ListN.{length, drop, length-map}
 use borrow.Author.Tests.{le-leb, lt-leb}
+use Rattle.rules.specs.Lists.{run}
 use Rattle.rules.specs.Network.{Network, network-of, Proper, strong}
 use Rattle.rules.specs.Components.{sources, sinks, alone}
-use Rattle.rules.specs.Plan.{Link, why-number, turned, turned-link, is-upright, ordering, upright-plan, upright}
+use Rattle.rules.specs.Plan.{Link, why-number, turned, turned-link, is-upright, ordering, upright-plan}
 use Rattle.rules.specs.Plan.{plan, plan-pairs, plan-need}
 use Rattle.rules.specs.Calls.{arcs-of, handed, asked-work}
 use Rattle.tests.proofs.Fine.{fine-proper}
 use Rattle.rows.specs.Regions.{Holds}
-use Rattle.rows.specs.Work.{starts-at, rows-at, turned-starts-at, turned-rows-at}
 use Rattle.rows.proofs.ArcRows.{arcs-length}
 use Rattle.search.proofs.Keeping.{drop-deeper}
 use Rattle.theory.proofs.Ground.Bools.{bool-cases}
@@ -28,7 +28,8 @@ use Rattle.theory.proofs.Ground.Ascending.{in-run}
 use Rattle.theory.proofs.Reaching.Reach.{strong-sound}
 use Rattle.theory.proofs.Reaching.KindCounts.{strong-kinds}
 use Rattle.theory.proofs.Reaching.Turned.{turned-proper, turned-sources, turned-sinks, turned-alone, turned-strong}
-use Rattle.theory.proofs.Planning.PlanStrong.{plan-of-strong, plan-of-upright, plan-of-turned, upright-same, upright-other}
+use Rattle.theory.proofs.Planning.PlanStrong.{plan-of-strong, plan-of-upright, plan-of-turned}
+use Rattle.theory.proofs.Planning.PlanStrong.{upright-same, upright-other}
 use Rattle.theory.proofs.Planning.PlanCount.{sources-split, sinks-split, plan-length}
 use Rattle.network.specs.Ready.{Readyable}
 use Rattle.network.proofs.Memory.{arcs-within, turned-within}
@@ -109,9 +110,8 @@ module _
         let is : strong N ≡ true =
         sum-strong n (arcs-of ts hs) proper (omega (arith, S .sources-are, S .sinks-are, S .alone-are))
         in
-        let none : length (sources N) ≡ 0 =
-        ap length (strong-kinds proper (strong-sound N is) {z = 0} (in-run 0 n (omega arith) (omega (arith, A .fine .low))) .0)
-        in
+        let zone : In 0 (run 0 n) = in-run 0 n (omega arith) (omega (arith, A .fine .low)) in
+        let none : length (sources N) ≡ 0 = ap length (strong-kinds proper (strong-sound N is) zone .0) in
         laid-by w₁ 0 0 [] (plan-of-strong N is) (omega (arith, pairs-few proper)) refl refl refl refl refl refl
 
     -- the network is not strong

@@ -1,16 +1,16 @@
 -- The tests of PLAN: a network, then the length of the work memory and of the three lent lists.
---   Plan-tests      the tests with the length of the shortest list
+--   plan-tests      the tests with the length of the shortest list
 --   work-first      a trouble of the network or of the work memory comes first
 --   then-room       without one, the shortest list decides
 --   rooms-two       two lists are as long as asked exactly where the shorter one is
 --   plan-tested     the tests of the three lists are the test of the shortest
 -- Assumes nothing.
-use mathlib.Core.Path.{_≡_, refl, sym, ap, _∙_}
+use mathlib.Core.Path.{_≡_, sym, ap, _∙_}
 use mathlib.Core.Logic.{inl, inr}
-use mathlib.Core.Bool.{Bool, true, false}
+use mathlib.Core.Bool.{true, false}
 use mathlib.Core.Option.{Option, none, some}
 use mathlib.Core.List.{List, [], _∷_, _++_, append-assoc}
-use Prim.Native.Nat.{ℕ, _<_, _≤_, min}
+use Prim.Native.Nat.{ℕ, min}
 use native.Mathlib.Omega.{arith}
 use lib.Dec.{ltb}
 use lib.ListN.{length}
@@ -32,7 +32,9 @@ module _ (n : ℕ) (ts hs : List ℕ) (room lent : ℕ) where
 
   -- the latter are the former and one more
   one-more : plan-tests ≡ work-tests ++ (room-test n room ∷ [])
-  one-more = sym (append-assoc (network-tests n ts hs) (room-test (asked-work n (length ts)) lent ∷ []) (room-test n room ∷ []))
+  one-more =
+      let asked = asked-work n (length ts) in
+      sym (append-assoc (network-tests n ts hs) (room-test asked lent ∷ []) (room-test n room ∷ []))
 
   -- a trouble of the network or of the work memory comes first
   pub work-first : {r : Refusal} → first-trouble work-tests ≡ some r → first-trouble plan-tests ≡ some r
@@ -43,7 +45,8 @@ module _ (n : ℕ) (ts hs : List ℕ) (room lent : ℕ) where
   then-room e = ap first-trouble one-more ∙ first-trouble-after work-tests (room-test n room ∷ []) e
 
 -- two lists are as long as asked exactly where the shorter one is
-rooms-two : (n a b : ℕ) → first-trouble (room-test n a ∷ room-test n b ∷ []) ≡ first-trouble (room-test n (min a b) ∷ [])
+rooms-two : (n a b : ℕ) →
+    first-trouble (room-test n a ∷ room-test n b ∷ []) ≡ first-trouble (room-test n (min a b) ∷ [])
 rooms-two n a b =
     elim (below? a n) [
       | inl l ↦ rw (lt-ltb a n l, lt-ltb (min a b) n (omega arith))

@@ -5,8 +5,7 @@
 use mathlib.Core.Path.{_≡_, refl, ap}
 use mathlib.Core.List.{List, [], _∷_, map, zipWith}
 use Prim.Native.Nat.{ℕ}
-use lib.ListN.{length}
-use Rattle.rules.specs.Network.{Arc, _⟶_, Network, network-of}
+use Rattle.rules.specs.Network.{Arc, _⟶_, network-of}
 use Rattle.rules.specs.Plan.{Link, why-number, turned, turned-link}
 use Rattle.rules.specs.Calls.{arcs-of}
 

@@ -10,7 +10,7 @@ use native.Mathlib.Omega.{arith}
 use lib.ListN.{length, getD}
 use Rattle.rules.specs.Network.{network-of}
 use Rattle.rules.specs.Calls.{arcs-of, asked-work}
-use Rattle.rows.specs.Work.{starts-at, turned-rows-at}
+use Rattle.rows.specs.Work.{starts-at}
 use Rattle.rows.proofs.Regions.{at-below}
 use Rattle.search.proofs.Keeping.{drop-deeper}
 use Rattle.network.specs.Ready.{Readyable, Readied}

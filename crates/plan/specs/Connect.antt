@@ -49,7 +49,8 @@ pub record Connectable
   pub sinks-held : Holds w t-at (sinks (network-of n es))
   pub alone-held : Holds w (alone-at n) (alone (network-of n es))
 
--- the links of the rule for s ≤ t are put, and r counts the pairs and the links; from the rows on the memory is as it was
+-- the links of the rule for s ≤ t are put, and r counts the pairs and the links; from the rows on the memory is as it
+-- was
 pub record Connected (w w' : List ℕ) (n : ℕ) (c : Columns) (M : Network) (r : Connection) : Type 0 where
   pub pairs : r .pairs ≡ length (ordering M .pairs)
   pub need : r .need ≡ length (upright-plan M)

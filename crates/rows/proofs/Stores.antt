@@ -12,7 +12,8 @@ use mathlib.Core.List.{List, [], _∷_, _++_, append-assoc}
 use Prim.Native.Nat.{ℕ, suc, _+_, _≤_, _<_}
 use native.Mathlib.Omega.{arith}
 use lib.ListN.{length, getD, take, drop, set, List·getD-append}
-use lib.Seq.{sets, sets-eq, set-comm, take-set-le, drop-set-lt, getD-set-other, length-take-le, drop-at, getD-drop, take-append-seam}
+use lib.Seq.{sets, sets-eq, set-comm, take-set-le, drop-set-lt, getD-set-other, length-take-le, drop-at, getD-drop}
+use lib.Seq.{take-append-seam}
 use Rattle.rows.specs.Regions.{part, Holds}
 use Rattle.rows.proofs.Regions.{part-below, part-kept, holds-append}
 

@@ -1,5 +1,5 @@
--- `kindlists::list` meets its contract: the first z zones are tried, and a turn tries one more. The measure is the number of
--- zones that are left. Assumes nothing.
+-- `kindlists::list` meets its contract: the first z zones are tried, and a turn tries one more. The measure is the
+-- number of zones that are left. Assumes nothing.
 use Prim.Native.Nat.{_-_, _≤_}
 use mathlib.Core.Path.{_≡_, ap, _∙_}
 use lib.ListN.{length}

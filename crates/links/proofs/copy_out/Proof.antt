@@ -1,6 +1,6 @@
--- `links::copy_out` meets its contract: the first i elements are copied, and a turn copies one more. The measure is what is
--- left to copy. Assumes nothing.
-use Prim.Native.Nat.{_+_, _≤_, _-_}
+-- `links::copy_out` meets its contract: the first i elements are copied, and a turn copies one more. The measure is
+-- what is left to copy. Assumes nothing.
+use Prim.Native.Nat.{_≤_, _-_}
 use mathlib.Core.Path.{_≡_, ap, _∙_}
 use lib.ListN.{length}
 use lib.Seq.{sets, length-sets}

@@ -1,5 +1,5 @@
--- `links::fill` meets its contract: the number is stored i times, and a turn stores it once more. The measure is what is
--- left to store. Assumes nothing.
+-- `links::fill` meets its contract: the number is stored i times, and a turn stores it once more. The measure is what
+-- is left to store. Assumes nothing.
 use Prim.Native.Nat.{_≤_, _-_}
 use mathlib.Core.Path.{_≡_, ap, _∙_}
 use lib.ListN.{length, replicate}

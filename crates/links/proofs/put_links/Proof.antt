@@ -1,5 +1,5 @@
--- `links::put_links` meets its contract: the stations are put, and then the rings, the chain and the links back one behind
--- the other. Assumes nothing.
+-- `links::put_links` meets its contract: the stations are put, and then the rings, the chain and the links back one
+-- behind the other. Assumes nothing.
 use Prim.Native.Nat.{ℕ, _+_, _-_, _≤_}
 use mathlib.Core.Path.{_≡_}
 use mathlib.Core.List.{List}
@@ -133,7 +133,8 @@ join-requires-3 c κs =
 
 add-result : tie.Need-add-result
 add-result c =
-    let d = c .before .before .before .before .before .before .before .before .before .before .before .before .before .before in
+    let f = c .before .before .before .before .before .before .before in
+    let d = f .before .before .before .before .before .before .before in
     omega (arith, small d, start d .good .0)
 
 same-length : tie.Need-same-length
@@ -148,8 +149,8 @@ returns c =
     let a = start d .args in
     let m = put d .put-stations in
     linked (a .work .now) (a .zones) (a .n) (a .p) (start d .pre .placed) (m .last .0) (m .result) (m .ensures)
-    (start d .pre) (rings d) (steps d) (rings-is d) (steps-is d) (e .join .last .0) (f .join2 .last .0) (g .join3 .last .0)
-    (e .join .ensures) (f .join2 .ensures) (g .join3 .ensures)
+    (start d .pre) (rings d) (steps d) (rings-is d) (steps-is d) (e .join .last .0) (f .join2 .last .0)
+    (g .join3 .last .0) (e .join .ensures) (f .join2 .ensures) (g .join3 .ensures)
 
 pub put-links-spec : {M : Type 1} → statement M
 put-links-spec =

@@ -1,8 +1,7 @@
 -- `links::put_stations` meets its contract: its four copies put the four pieces of the stations one behind the other.
 -- Assumes nothing.
-use Prim.Native.Nat.{ℕ, _+_, _*_, _-_, _≤_, min}
-use mathlib.Core.Path.{_≡_, refl, _∙_}
-use mathlib.Core.List.{List}
+use Prim.Native.Nat.{_+_, _*_, _≤_, min}
+use mathlib.Core.Path.{_≡_}
 use lib.ListN.{length}
 use Rattle.links.specs.Linking.{first-at}
 use Rattle.links.proofs.Runs.{copied-long}
@@ -35,7 +34,8 @@ last-is c = c .before .before .before .before .before .before .before .before .o
 
 -- how many last stations there are: one, or none
 first-is : (c : tie.After-copy) →
-    c .before .before .before .before .before .one-of2 .result ≡ min 1 (start c .args .n .pairs + start c .args .n .alone)
+    c .before .before .before .before .before .one-of2 .result
+    ≡ min 1 (start c .args .n .pairs + start c .args .n .alone)
 first-is c = c .before .before .before .before .before .one-of2 .ensures
 
 -- the last station lies behind the stretch for the stations, and in the memory

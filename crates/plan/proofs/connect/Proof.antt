@@ -65,7 +65,8 @@ returns c es C =
     let e = c .before .before in
     let d = e .before .before .before .before in
     let a = start d .args in
-    connected (a .work .now) (a .zones) (a .starts) (a .rows) (a .s) (a .sources) (a .t) (a .sinks) (a .q) (a .c) es C (d .pair .last .0) (d .pair .result) (d .pair .ensures) (e .put-links .last .0) (e .put-links .result)
+    connected (a .work .now) (a .zones) (a .starts) (a .rows) (a .s) (a .sources) (a .t) (a .sinks) (a .q) (a .c) es C
+    (d .pair .last .0) (d .pair .result) (d .pair .ensures) (e .put-links .last .0) (e .put-links .result)
     (e .put-links .ensures)
 
 pub connect-spec : {M : Type 1} → statement M

@@ -1,6 +1,5 @@
 -- `plan::lay` meets its contract: one way each for a strong network, for s ≤ t and for s > t. Assumes nothing.
 use Prim.Native.Nat.{_+_, _≤_}
-use mathlib.Core.List.{List}
 use Rattle.rules.specs.Calls.{arcs-of}
 use Rattle.plan.proofs.Laying.{sums-small, laid-strong, for-upright, laid-upright, for-turned, laid-turned}
 use borrow.Author.Needs.{needs}

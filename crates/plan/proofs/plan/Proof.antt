@@ -1,5 +1,5 @@
--- `plan::plan` meets its contract: a trouble is refused and changes nothing, and without one the plan that was laid out is
--- copied out, and the work memory is cleared. Assumes nothing.
+-- `plan::plan` meets its contract: a trouble is refused and changes nothing, and without one the plan that was laid out
+-- is copied out, and the work memory is cleared. Assumes nothing.
 use Prim.Native.Nat.{_≤_, min}
 use mathlib.Core.Path.{_≡_, sym, ap, _∙_}
 use mathlib.Core.Option.{none}
@@ -23,8 +23,8 @@ entry c = c .before .before .before .before .before .before .before .before .bef
 
 -- what PLAN's tests say is what was found
 found : (c : Tried) →
-    plan-trouble (entry c .args .zones) (entry c .args .tails .now) (entry c .args .heads .now) (entry c .args .work .now)
-    (entry c .args .from .now) (entry c .args .to .now) (entry c .args .why .now)
+    plan-trouble (entry c .args .zones) (entry c .args .tails .now) (entry c .args .heads .now)
+    (entry c .args .work .now) (entry c .args .from .now) (entry c .args .to .now) (entry c .args .why .now)
     ≡ tested-trouble (c .plan-trouble .result)
 found c =
     let a = entry c .args in
@@ -66,6 +66,18 @@ Laid = tie.After-lay
 abbrev here : Laid → Here
 here c = c .before .before
 
+-- the plan laid out, from where the starts are copied out
+abbrev one : tie.After-copy-out → Laid
+one c = c .before .before .before .before .before
+
+-- the starts copied out, from the ends
+abbrev two : tie.After-copy-out2 → tie.After-copy-out
+two c = c .before .before .before .before .before
+
+-- the ends copied out, from the whys
+abbrev three : tie.After-copy-out3 → tie.After-copy-out2
+three c = c .before .before .before .before .before
+
 -- the work memory is as long as asked
 work-room : (c : Laid) →
     asked-work (entry (here c .before .before) .args .zones) (length (entry (here c .before .before) .args .tails .now))
@@ -105,28 +117,29 @@ copy-out-requires c κs =
 
 copy-out-requires-2 : tie.Need-copy-out-requires-2
 copy-out-requires-2 c κs =
-    let d = c .before .before .before .before .before .before .before .before .before in
+    let d = one (c .before .before .before .before) in
     let l = d .lay .ensures in
     (omega (arith, l .few, work-room d), omega (arith, l .few, plannable (here d) .to-room))
 
 mul-copy-out : tie.Need-mul-copy-out
 mul-copy-out c =
-    let d = c .before .before .before .before .before .before .before .before .before .before .before .before .before in
+    let d = one (two (c .before .before .before)) in
     omega (arith, plannable (here d) .ready .fine .high)
 
 copy-out-requires-3 : tie.Need-copy-out-requires-3
 copy-out-requires-3 c κs =
-    let d = c .before .before .before .before .before .before .before .before .before .before .before .before .before .before in
+    let d = one (two (c .before .before .before .before)) in
     let l = d .lay .ensures in
     (omega (arith, l .few, work-room d), omega (arith, l .few, plannable (here d) .why-room))
 
 asked-work-requires : tie.Need-asked-work-requires
 asked-work-requires c κs =
-    let f = plannable (here (c .before .before .before .before .before .before .before .before .before .before .before .before .before .before .before .before .before .before)) .ready .fine in
+    let f = plannable (here (one (two (three (c .before .before .before))))) .ready .fine in
     (f .high, f .few)
 
 clear-requires : tie.Need-clear-requires
-clear-requires c κs = omega (arith, c .asked-work .ensures, work-room (c .before .before .before .before .before .before .before .before .before .before .before .before .before .before .before .before .before .before .before))
+clear-requires c κs =
+    omega (arith, c .asked-work .ensures, work-room (one (two (three (c .before .before .before .before)))))
 
 same-length : tie.Need-same-length
 same-length c = search needs
@@ -144,9 +157,9 @@ returns-2 : tie.Need-returns-2
 returns-2 c =
     let h = c .before .before in
     let g = c .before .before .before .before .before .before .before in
-    let f = c .before .before .before .before .before .before .before .before .before .before .before .before in
-    let e = c .before .before .before .before .before .before .before .before .before .before .before .before .before .before .before .before .before in
-    let d = c .before .before .before .before .before .before .before .before .before .before .before .before .before .before .before .before .before .before .before .before .before .before in
+    let f = three g in
+    let e = two f in
+    let d = one e in
     let a = entry (here d .before .before) .args in
     plan-done (a .zones) (a .tails .now) (a .heads .now) (a .work .now) (a .from .now) (a .to .now) (a .why .now)
     (d .lay .last .1 .1 .1 .0) (h .clear .last .0) (e .copy-out .last .1 .1 .1 .0) (f .copy-out2 .last .1 .1 .1 .0)

@@ -1,8 +1,5 @@
 -- `plan::plan_trouble` meets its contract: a trouble of the network or of the work memory comes first. Assumes nothing.
-use mathlib.Core.Path.{_≡_, sym, ap, _∙_}
-use mathlib.Core.List.{List, [], _∷_, _++_}
-use lib.ListN.{length}
-use Rattle.rules.specs.Calls.{Test, network-tests, room-test, asked-work}
+use mathlib.Core.Path.{sym, ap, _∙_}
 use Rattle.tests.specs.Tested.{tested-trouble}
 use Rattle.plan.proofs.Rooms.{work-first, then-room}
 use borrow.Author.Needs.{needs}

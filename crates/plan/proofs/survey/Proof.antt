@@ -1,5 +1,5 @@
 -- `plan::survey` meets its contract: each step asks for what the ones before it leave. Assumes nothing.
-use mathlib.Core.Path.{refl}
+
 use Rattle.plan.proofs.Surveying.{for-naming, for-listing, surveyed}
 use borrow.Author.Needs.{needs}
 use Rattle.plan.proofs.survey.Statement.{statement}
