@@ -6,25 +6,23 @@
 -- Assumes nothing.
 use mathlib.Core.Path.{_≡_, refl, sym, ap, _∙_}
 use mathlib.Core.List.{List, List·Memᴰ as In}
-use mathlib.Core.Bool.{true}
-use Prim.Native.Nat.{ℕ, _+_, _*_, _≤_, _<_}
+use Prim.Native.Nat.{ℕ, _+_, _*_, _<_}
 use native.Mathlib.Omega.{arith}
-use lib.ListN.{length, getD, take, drop}
-use Rattle.rules.specs.Network.{Network, _⟶_, Proper, Reach}
+use lib.ListN.{length, getD}
+use Rattle.rules.specs.Network.{Network, _⟶_, Proper}
 use Rattle.rules.specs.Components.{name}
-use Rattle.rules.specs.Skeleton.{crosses}
-use Rattle.rules.specs.Calls.{arcs-of, handed}
+use Rattle.rules.specs.Calls.{handed}
 use Rattle.tests.proofs.Fine.{arcs-index, index-arcs}
 use Rattle.theory.proofs.Reaching.Components.{Together, together-zone, name-together, name-name, name-agree}
-use Rattle.theory.proofs.Skeletons.SkeletonLaws.{Joined, Crosses, crosses-true, true-crosses}
+use Rattle.theory.proofs.Skeletons.SkeletonLaws.{Joined, crosses-true, true-crosses}
 use Rattle.theory.proofs.Skeletons.SkeletonOrder.{Direct, Chosen, direct-zone, chosen-crosses, crosses-chosen}
 use Rattle.rows.specs.Marks.{Marked}
 use Rattle.rows.proofs.Regions.{at-below, at-kept}
 use Rattle.search.specs.Marking.{Clear}
 use Rattle.search.proofs.Keeping.{drop-deeper}
 use Rattle.crossings.specs.Named.{name-at, top-at, Named, Crossed}
-use Rattle.crossings.specs.Direct.{Leads, Led, Directable, Directed}
-use Rattle.crossings.specs.Choosing.{Came, Picked, Choosable, Choosing}
+use Rattle.crossings.specs.Direct.{Led, Directable, Directed}
+use Rattle.crossings.specs.Choosing.{Picked, Choosable, Choosing}
 use Rattle.crossings.proofs.NamedLaws.{
   zone-in,
   in-zone,
@@ -122,9 +120,12 @@ module _ (w : List ℕ) (n : ℕ) (ts hs : List ℕ) (m : ℕ) (N : Named w n ts
           record {
             named = rw same at (name-name proper (zone-in n ts hs h th));
             other = l .leads .other;
-            arc =
-                (t ⟶ h, arc-at (l .at) (l .high), with-name t a (N .fine .tails (l .at) (l .high)) (l .leads .from),
-                  with-name h d th (l .leads .to));
+            arc = (
+              t ⟶ h,
+              arc-at (l .at) (l .high),
+              with-name t a (N .fine .tails (l .at) (l .high)) (l .leads .from),
+              with-name h d th (l .leads .to),
+            );
           }
 
       -- the index of an arc of the network

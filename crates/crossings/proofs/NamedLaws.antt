@@ -5,18 +5,16 @@
 --   named-laid           a search can go along the rows, with its marks and stack in the first 2 n places
 --   way-reach, reach-way a run along the rows is a reach, and back
 -- Assumes nothing.
-use mathlib.Core.Path.{_≡_, sym, _∙_}
+use mathlib.Core.Path.{_≡_, _∙_}
 use mathlib.Core.List.{List, List·Memᴰ as In}
-use Prim.Native.Nat.{ℕ, _+_, _*_, _≤_, _<_}
+use Prim.Native.Nat.{ℕ, _+_, _*_, _<_}
 use native.Mathlib.Omega.{arith}
-use lib.ListN.{length, getD, drop}
+use lib.ListN.{length, drop}
 use Rattle.rules.specs.Network.{Proper, Reach}
-use Rattle.rules.specs.Components.{name}
 use Rattle.rules.specs.Calls.{arcs-of, handed}
 use Rattle.tests.proofs.Fine.{fine-proper}
 use Rattle.theory.proofs.Ground.Ascending.{run-in, in-run}
 use Rattle.theory.proofs.Reaching.Components.{name-in}
-use Rattle.theory.proofs.Skeletons.SkeletonOrder.{Ordered}
 use Rattle.rows.specs.Work.{starts-at, rows-at}
 use Rattle.rows.proofs.ArcRows.{arcs-length}
 use Rattle.rows.proofs.ArrangedLaws.{arranged-kept, run-reach, reach-run}

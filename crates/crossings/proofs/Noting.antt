@@ -2,18 +2,18 @@
 --   noted-none, noted-set      the arc leads nowhere; it leads to d, and the mark of d is set
 --   directed-none, directed-turn     no arc yet, and one arc more
 -- A look keeps the names, so what an arc leads to is the same at every turn. Assumes nothing.
-use mathlib.Core.Path.{_≡_, refl, sym, ap, _∙_}
-use mathlib.Core.Logic.{_⊎_, inl, inr, ⊎-elim, _≢_}
+use mathlib.Core.Path.{_≡_, refl, sym, _∙_}
+use mathlib.Core.Logic.{inl, inr, ⊎-elim, _≢_}
 use mathlib.Core.List.{List}
 use Prim.Native.Nat.{ℕ, _+_, _*_, _≤_, _<_}
 use native.Mathlib.Omega.{arith}
-use lib.ListN.{length, getD, take, drop, set, length-set}
+use lib.ListN.{length, getD, set, length-set}
 use lib.Seq.{getD-set-same, getD-set-other, take-set-le, drop-set-lt}
 use Rattle.rows.specs.Marks.{Marked}
 use Rattle.rows.proofs.Zeros.{same?, below?}
 use Rattle.rows.proofs.Regions.{at-kept}
 use Rattle.crossings.specs.Named.{name-at}
-use Rattle.crossings.specs.Direct.{Leads, Led, Notable, Noted, Directable, Directed}
+use Rattle.crossings.specs.Direct.{Leads, Notable, Noted, Directable, Directed}
 
 -- the arc leads nowhere, and nothing changes
 pub noted-none : (w : List ℕ) (n a tail head : ℕ) → ((d : ℕ) → Leads (name-at w n) a tail head d → ⊥) →

@@ -3,8 +3,8 @@
 --   tried-ready, tried-search     the name is chosen, and searched from
 --   choosing-none, choosing-ready, choosing-turn     no name yet, what the next try asks, and one name more
 -- A direct name that the search has come to needs no search of its own, since the marks are closed. Assumes nothing.
-use mathlib.Core.Path.{_≡_, refl, sym, ap, _∙_}
-use mathlib.Core.Logic.{_⊎_, inl, inr, ⊎-elim, _≢_}
+use mathlib.Core.Path.{_≡_, refl, sym, _∙_}
+use mathlib.Core.Logic.{inl, inr, ⊎-elim, _≢_}
 use mathlib.Core.List.{List}
 use Prim.Native.Nat.{ℕ, _+_, _*_, _≤_, _<_}
 use native.Mathlib.Omega.{arith}
@@ -20,7 +20,7 @@ use Rattle.search.proofs.Keeping.{drop-deeper}
 use Rattle.search.proofs.Closed.{closed-run, clear-closed}
 use Rattle.search.proofs.Course.{laid-same}
 use Rattle.crossings.specs.Named.{top-at}
-use Rattle.crossings.specs.Choosing.{rows-in, Way, Came, Picked, Triable, Tried, Choosable, Choosing}
+use Rattle.crossings.specs.Choosing.{Came, Picked, Triable, Tried, Choosable, Choosing}
 
 -- equal marks over equal rows are closed alike
 closed-same : (w w' : List ℕ) (zones starts rows marks : ℕ) → Sound (rows-of w zones starts rows) →

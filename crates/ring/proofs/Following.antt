@@ -2,8 +2,8 @@
 --   ring-follows     the rules' `follows` takes the arc from a exactly to the zone that follows a in the ring
 -- Zones of one component have one name, the lowest of them. Assumes nothing.
 use mathlib.Core.Path.{_≡_, sym, _∙_}
-use mathlib.Core.Logic.{_⊎_, inl, inr, ⊎-elim}
-use mathlib.Core.List.{List, List·Memᴰ as In}
+use mathlib.Core.Logic.{inl, inr, ⊎-elim}
+use mathlib.Core.List.{List}
 use mathlib.Core.Bool.{true}
 use Prim.Native.Nat.{ℕ, _≤_, _<_}
 use native.Mathlib.Omega.{arith}
@@ -24,7 +24,7 @@ use Rattle.theory.proofs.Reaching.Components.{
 use Rattle.theory.proofs.Skeletons.SkeletonLaws.{Follows, follows-true, true-follows}
 use Rattle.rows.proofs.Zeros.{below?}
 use Rattle.crossings.specs.Named.{name-at, Named}
-use Rattle.crossings.proofs.NamedLaws.{zone-in, in-zone, named-proper, named-zone}
+use Rattle.crossings.proofs.NamedLaws.{zone-in, in-zone, named-proper}
 use Rattle.ring.specs.Ring.{First-above, Ring-next}
 
 module _ (w : List ℕ) (n : ℕ) (ts hs : List ℕ) (m : ℕ) (N : Named w n ts hs m) (a : ℕ) (zone : a < n) where

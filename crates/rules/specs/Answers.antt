@@ -3,11 +3,13 @@
 --   Told             what an answer says: the number, the place, and the values
 --   read-told ..     what each case of each call's answer says
 --   refused k t      what a refusal says where the answer has k values: each of them is 0
+--   answer-eight     the eight numbers of the C interface
 -- Every promise speaks of an answer through these.
 use Prim.Native.Nat.{ℕ}
 use mathlib.Core.List.{List, [], _∷_}
 use mathlib.Core.Bool.{Bool, true, false}
 use lib.ListN.{replicate}
+use Rattle.rules.specs.Lists.{over}
 use Rattle.rules.specs.declared.Kind.{Kind}
 use Rattle.rules.specs.declared.Kind.the-variants.{Short, Long, Loose, Zones, Arcs, Range, SelfArc, Extra, Room, Pair}
 use Rattle.rules.specs.declared.Trouble.{Trouble}
@@ -88,3 +90,7 @@ skeleton-told (SkeletonAnswer.Refused t) = refused 1 (trouble-refusal t)
 abbrev pub plan-told : PlanAnswer → Told
 plan-told (PlanAnswer.Done s t q p need) = done (s ∷ t ∷ q ∷ p ∷ need ∷ [])
 plan-told (PlanAnswer.Refused t) = refused 5 (trouble-refusal t)
+
+-- the eight numbers that the C interface hands out: the number, the place, the values, and 0 in what is left
+abbrev pub answer-eight : Told → List ℕ
+answer-eight t = over (t .number ∷ t .place ∷ t .values) (replicate 8 0)

@@ -5,14 +5,13 @@
 -- Assumes nothing.
 use mathlib.Core.Path.{_≡_, refl, sym, ap, _∙_}
 use mathlib.Core.List.{List, List·Memᴰ as In, map}
-use Prim.Native.Nat.{ℕ, _+_, _*_, _≤_, _<_}
+use Prim.Native.Nat.{ℕ, _+_, _*_, _≤_}
 use native.Mathlib.Omega.{arith}
 use lib.ListN.{length, drop}
 use borrow.Author.Tests.{eq-eqb}
 use Rattle.rules.specs.Lists.{over, cleared}
 use Rattle.rules.specs.Network.{Arc, network-of}
 use Rattle.rules.specs.Components.{name, is-name, names}
-use Rattle.rules.specs.Skeleton.{skeleton}
 use Rattle.rules.specs.Calls.{arcs-of, handed, asked-work}
 use Rattle.theory.proofs.Ground.Lists.{in-keep}
 use Rattle.theory.proofs.Ground.Ascending.{run-length}
@@ -25,7 +24,7 @@ use Rattle.network.specs.Ready.{Readyable, Readied}
 use Rattle.network.proofs.Memory.{arcs-within, readied-zero, cleared-back}
 use Rattle.components.specs.Components.{Lent, Components}
 use Rattle.crossings.specs.Named.{Named}
-use Rattle.skeleton.specs.Putting.{Roomy, Put, skeleton-part, Rows-put}
+use Rattle.skeleton.specs.Putting.{Roomy, skeleton-part, Rows-put}
 use Rattle.skeleton.specs.Promises.{Sketchable, Sketched}
 use Rattle.skeleton.proofs.Puts.{put-over}
 use Rattle.skeleton.proofs.Zones.{part-all, part-few}

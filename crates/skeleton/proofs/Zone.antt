@@ -4,17 +4,16 @@
 --   row-truth                    the arcs with marks are the skeleton's arcs from the zone
 --   zone-room, zone-put          so they have room, and when they are put the zone is done
 -- An arc is in the skeleton if it follows or if it crosses. Assumes nothing.
-use mathlib.Core.Path.{_≡_, refl, sym, ap, _∙_}
-use mathlib.Core.Logic.{_⊎_, inl, inr, ⊎-elim}
-use mathlib.Core.List.{List, List·Memᴰ as In}
-use mathlib.Core.Bool.{Bool, true, not}
+use mathlib.Core.Path.{_≡_, _∙_}
+use mathlib.Core.Logic.{inl, inr, ⊎-elim}
+use mathlib.Core.List.{List}
+use mathlib.Core.Bool.{true}
 use Prim.Native.Nat.{ℕ, _+_, _*_, _≤_, _<_}
 use native.Mathlib.Omega.{arith}
-use lib.Dec.{eqb}
-use lib.ListN.{length, getD, drop}
+use lib.ListN.{length, getD}
 use borrow.Author.Tests.{ne-eqb, eqb-false, not-true}
 use Rattle.rules.specs.Lists.{run, keep, cleared}
-use Rattle.rules.specs.Network.{Arc, _⟶_, Network}
+use Rattle.rules.specs.Network.{_⟶_, Network}
 use Rattle.rules.specs.Skeleton.{follows, crosses, in-skeleton}
 use Rattle.rules.specs.Calls.{handed}
 use Rattle.theory.proofs.Ground.Bools.{bool-agree, or-else-true, true-or-else, false-not}

@@ -2,21 +2,21 @@
 --   zones-none, zones-named, zones-room, zones-turn    no zone yet; what the next zone asks; and one zone more
 --   part-all        the arcs from all zones are the skeleton
 -- The skeleton has no more arcs than its network, and so there is room at every turn. Assumes nothing.
-use mathlib.Core.Path.{_≡_, refl, sym, ap, _∙_}
+use mathlib.Core.Path.{_≡_, refl, ap, _∙_}
 use mathlib.Core.List.{List}
-use Prim.Native.Nat.{ℕ, _+_, _*_, _≤_, _<_}
+use Prim.Native.Nat.{ℕ, _+_, _≤_, _<_}
 use native.Mathlib.Omega.{arith}
-use lib.ListN.{length, drop, length-append}
+use lib.ListN.{length, length-append}
 use Rattle.rules.specs.Lists.{run}
 use Rattle.rules.specs.Network.{Network}
 use Rattle.rules.specs.Skeleton.{in-skeleton, skeleton}
-use Rattle.rules.specs.Calls.{arcs-of, handed}
+use Rattle.rules.specs.Calls.{handed}
 use Rattle.theory.proofs.Skeletons.SkeletonLeast.{skeleton-short}
 use Rattle.theory.proofs.Skeletons.SkeletonRows.{rows-none, rows-next, rows-few, skeleton-rows}
 use Rattle.rows.proofs.ArcRows.{arcs-length}
 use Rattle.crossings.specs.Named.{Named}
 use Rattle.crossings.proofs.NamedLaws.{named-kept, named-proper}
-use Rattle.skeleton.specs.Putting.{Roomy, Put, skeleton-row, skeleton-part, Zone-put, Rows-put}
+use Rattle.skeleton.specs.Putting.{Roomy, skeleton-row, skeleton-part, Zone-put, Rows-put}
 use Rattle.skeleton.proofs.Puts.{put-none, put-then, put-long}
 
 -- the arcs from all zones are the skeleton

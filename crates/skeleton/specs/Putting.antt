@@ -49,10 +49,10 @@ skeleton-part N n a = keep (in-skeleton N) (pair-rows (run 0 n) (run 0 a))
 
 -- the skeleton's arcs from a are put, and the work memory is kept from 4 n on
 pub record Zone-put (w w' : List ℕ) (n : ℕ) (ts hs : List ℕ) (a : ℕ) (ots ohs ots' ohs' : List ℕ) (at r : ℕ) : Type 0
-    where
-  pub long : length w' ≡ length w
-  pub high : drop (4 * n) w' ≡ drop (4 * n) w
-  pub put : Put ots ohs ots' ohs' at (skeleton-row (handed n ts hs) n a) r
+  where
+    pub long : length w' ≡ length w
+    pub high : drop (4 * n) w' ≡ drop (4 * n) w
+    pub put : Put ots ohs ots' ohs' at (skeleton-row (handed n ts hs) n a) r
 
 -- the skeleton's arcs from the zones below a are put, and the work memory is kept from 4 n on
 pub record Rows-put (w w' : List ℕ) (n : ℕ) (ts hs : List ℕ) (a : ℕ) (ots ohs ots' ohs' : List ℕ) (r : ℕ) : Type 0 where

@@ -180,14 +180,7 @@ pub fn skeleton(
         (now (to .entry)) (now (work .entry)) r (now (from .exit)) (now (to .exit))
         (now (work .exit)) ⌝ }
 {
-    let t = skeleton_trouble(
-        zones,
-        tails,
-        heads,
-        from.len(),
-        to.len(),
-        work.len(),
-    );
+    let t = skeleton_trouble(zones, tails, heads, from.len(), to.len(), work.len());
     if let Tested::Refused(trouble) = t {
         return SkeletonAnswer::Refused(trouble);
     }

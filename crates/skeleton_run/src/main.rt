@@ -1,7 +1,6 @@
 // Runs `skeleton`: document 01's case J, skeletons of skeletons, repeats, one component of all zones, no arcs, the largest
 // sizes, and every refusal. A line has the label, the number, the place, the arc count, the arcs that were put, and how
 // many elements of the work memory are not zero then. Of long lists it has how many elements were put, and their sum.
-ghost use Prim.Native.Nat.{_≤_};
 use rules::Kind;
 use rules::SkeletonAnswer;
 use rules::Trouble;
@@ -66,12 +65,15 @@ fn others(list: &[u16], x: u16) -> u64 {
     n
 }
 
-// The sum of the first `upto` elements, or of all where there are fewer.
-fn sum(list: &[u16], upto: u64) -> u64 {
+// The sum of the elements that were put, up to 4,096 of them.
+fn sum(list: &[u16]) -> u64 {
     let mut total = 0;
     let mut i = 0;
     while i < list.len() {
-        if upto <= i as u64 {
+        if 4096 <= i {
+            return total;
+        }
+        if list[i] == UNUSED {
             return total;
         }
         total += list[i] as u64;
@@ -82,9 +84,8 @@ fn sum(list: &[u16], upto: u64) -> u64 {
 
 // How many elements of a list were put, and their sum.
 fn show_sum(list: &[u16]) {
-    let n = others(list, UNUSED);
-    show(n);
-    show(sum(list, n));
+    show(others(list, UNUSED));
+    show(sum(list));
 }
 
 // One arc.
@@ -158,13 +159,38 @@ fn case_j() {
 fn networks() {
     small(b"no arcs", 4, &[], &[]);
     small(b"one zone", 1, &[], &[]);
-    small(b"one arc, six times", 2, &[0, 0, 0, 0, 0, 0], &[1, 1, 1, 1, 1, 1]);
-    small(b"repeats in any order", 3, &[2, 0, 2, 0, 1, 2], &[1, 2, 1, 2, 0, 1]);
-    small(b"one component of all zones", 4, &[3, 1, 0, 2], &[1, 0, 2, 3]);
+    small(
+        b"one arc, six times",
+        2,
+        &[0, 0, 0, 0, 0, 0],
+        &[1, 1, 1, 1, 1, 1],
+    );
+    small(
+        b"repeats in any order",
+        3,
+        &[2, 0, 2, 0, 1, 2],
+        &[1, 2, 1, 2, 0, 1],
+    );
+    small(
+        b"one component of all zones",
+        4,
+        &[3, 1, 0, 2],
+        &[1, 0, 2, 3],
+    );
     small(b"its skeleton", 4, &[0, 1, 2, 3], &[1, 2, 3, 0]);
-    small(b"two arcs beside each other", 4, &[0, 0, 1, 2], &[1, 2, 3, 3]);
+    small(
+        b"two arcs beside each other",
+        4,
+        &[0, 0, 1, 2],
+        &[1, 2, 3, 3],
+    );
     small(b"one past another", 4, &[0, 0, 1, 0, 3], &[3, 1, 3, 2, 2]);
-    small(b"from a component to a lower one", 4, &[2, 3, 3, 1], &[3, 2, 1, 0]);
+    small(
+        b"from a component to a lower one",
+        4,
+        &[2, 3, 3, 1],
+        &[3, 2, 1, 0],
+    );
 }
 
 // Each refusal, and lists of any length.
@@ -177,7 +203,12 @@ fn refusals() {
     small(b"head out of range", 3, &[0, 1], &[1, 3]);
     small(b"self arc", 3, &[0, 1, 2], &[1, 2, 2]);
     small(b"room for the work", 5, &[0, 1], &[1, 2]);
-    small(b"room for the arcs", 4, &[0, 0, 0, 0, 0, 0, 0], &[1, 1, 1, 1, 1, 1, 1]);
+    small(
+        b"room for the arcs",
+        4,
+        &[0, 0, 0, 0, 0, 0, 0],
+        &[1, 1, 1, 1, 1, 1, 1],
+    );
 }
 
 // Lists that are too short by one, though the skeleton would fit.
@@ -187,10 +218,34 @@ fn rooms() {
     let mut work = [7u16; 38];
     let tails: &[u16] = &[0, 0];
     let heads: &[u16] = &[1, 1];
-    ask(b"room for the tails", 2, tails, heads, &mut short, &mut long, &mut work);
-    ask(b"room for the heads", 2, tails, heads, &mut long, &mut short, &mut work);
+    ask(
+        b"room for the tails",
+        2,
+        tails,
+        heads,
+        &mut short,
+        &mut long,
+        &mut work,
+    );
+    ask(
+        b"room for the heads",
+        2,
+        tails,
+        heads,
+        &mut long,
+        &mut short,
+        &mut work,
+    );
     let mut enough = [UNUSED; 2];
-    ask(b"room enough", 2, tails, heads, &mut enough, &mut long, &mut work);
+    ask(
+        b"room enough",
+        2,
+        tails,
+        heads,
+        &mut enough,
+        &mut long,
+        &mut work,
+    );
 }
 
 // Arc i goes from i, around 1,020 zones, to a zone 1 to 5 further on.
@@ -237,7 +292,11 @@ fn large() {
     fill_path(&mut tails, &mut heads);
     largest(b"1,024 zones in a path, with short cuts", &tails, &heads);
     fill_ring(&mut tails, &mut heads);
-    largest(b"1,024 zones in a ring, each arc four times", &tails, &heads);
+    largest(
+        b"1,024 zones in a ring, each arc four times",
+        &tails,
+        &heads,
+    );
 }
 
 fn main() {

@@ -1,7 +1,6 @@
 -- `crossings::mark_crossings` meets its contract: from a zone that is no name no arc crosses, and from a name the chosen
 -- ones are the heads. Assumes nothing.
 use borrow.Author.Needs.{needs}
-use native.Mathlib.Omega.{arith}
 use mathlib.Core.Path.{sym, _∙_}
 use Rattle.crossings.proofs.Crossing.{crossed-none, crossed-direct, crossed-choose, crossed-all}
 use borrow.Author.Needs.{needs}

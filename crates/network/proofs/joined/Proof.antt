@@ -2,9 +2,9 @@
 -- were, so the second can go, and clearing leaves what came behind. Assumes nothing.
 use borrow.Author.Needs.{needs}
 use native.Mathlib.Omega.{arith}
-use Prim.Native.Nat.{ℕ, _+_, _*_, _<_}
-use mathlib.Core.Path.{_≡_, _∙_}
-use lib.ListN.{length, getD}
+use Prim.Native.Nat.{_+_, _*_}
+use mathlib.Core.Path.{_∙_}
+use lib.ListN.{length}
 use Rattle.rules.specs.Calls.{asked-work}
 use Rattle.search.specs.Marking.{Clear}
 use Rattle.search.proofs.Keeping.{kept-at}

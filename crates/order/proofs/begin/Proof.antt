@@ -1,7 +1,7 @@
 -- `begin` meets its contract: a zone that has a mark is done already, and one that has none is put on the stack, with
 -- its mark, and `deepen` ends it. Assumes nothing.
 use native.Mathlib.Omega.{arith}
-use Prim.Native.Nat.{_+_, _-_}
+use Prim.Native.Nat.{_+_}
 use mathlib.Core.Path.{_≡_, refl, _∙_}
 use lib.ListN.{getD, length-set}
 use Rattle.order.proofs.Keeping.{kept-then, ready-kept, spans}

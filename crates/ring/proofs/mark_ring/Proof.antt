@@ -1,6 +1,5 @@
 -- `ring::mark_ring` meets its contract: the mark of the zone that follows is set, where there is one. Assumes nothing.
 use borrow.Author.Needs.{needs}
-use native.Mathlib.Omega.{arith}
 use Rattle.ring.proofs.Marking.{ringed-none, ringed-set}
 use Rattle.ring.proofs.mark_ring.Statement.{statement}
 use Rattle.ring.proofs.mark_ring.Tie as tie

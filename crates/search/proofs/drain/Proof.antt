@@ -3,12 +3,11 @@
 -- Assumes nothing.
 use borrow.Author.Needs.{needs}
 use native.Mathlib.Omega.{arith}
-use Prim.Native.Nat.{ℕ, _+_, _*_, _≤_, _<_, _-_}
+use Prim.Native.Nat.{ℕ, _+_, _*_, _<_, _-_}
 use mathlib.Core.Path.{_≡_, refl, sym}
-use mathlib.Core.List.{List}
 use lib.ListN.{length, getD}
 use Rattle.rows.specs.Marks.{zeros}
-use Rattle.search.specs.Marking.{Searching, Laid, Visitable}
+use Rattle.search.specs.Marking.{Searching, Visitable}
 use Rattle.search.proofs.Course.{visitable, turn, z-zone}
 use Rattle.search.proofs.drain.Statement.{statement}
 use Rattle.search.proofs.drain.Tie as tie

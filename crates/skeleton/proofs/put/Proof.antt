@@ -1,6 +1,5 @@
 -- `skeleton::put` meets its contract: an arc whose head has no mark is left out, and any other is stored. Assumes nothing.
 use borrow.Author.Needs.{needs}
-use native.Mathlib.Omega.{arith}
 use Rattle.skeleton.proofs.Puts.{put-miss, put-hit, hit-room}
 use Rattle.skeleton.proofs.put.Statement.{statement}
 use Rattle.skeleton.proofs.put.Tie as tie

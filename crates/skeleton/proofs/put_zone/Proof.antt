@@ -1,6 +1,5 @@
 -- `skeleton::put_zone` meets its contract: what has a mark in the end is an arc of the skeleton, and is put. Assumes nothing.
 use borrow.Author.Needs.{needs}
-use native.Mathlib.Omega.{arith}
 use Prim.Native.Nat.{_*_}
 use Rattle.rules.specs.Lists.{cleared}
 use Rattle.crossings.specs.Named.{Crossed}
@@ -33,9 +32,10 @@ mark-crossings-requires : tie.Need-mark-crossings-requires
 mark-crossings-requires c κs =
     let s = c .before .before .before .before .before .before .before .before .before .before in
     let a = s .args in
-    rw (c .before .before .before .clear .ensures)
-    (zone-named (a .work .now) (a .zones) (a .tails .now) (a .heads .now) (a .names) (s .pre .0),
-      (zone-clear (a .work .now) (a .zones) (a .tails .now) (a .heads .now) (a .names) (s .pre .0), s .pre .1 .0))
+    rw (c .before .before .before .clear .ensures) (
+      zone-named (a .work .now) (a .zones) (a .tails .now) (a .heads .now) (a .names) (s .pre .0),
+      (zone-clear (a .work .now) (a .zones) (a .tails .now) (a .heads .now) (a .names) (s .pre .0), s .pre .1 .0),
+    )
 
 mark-ring-requires : tie.Need-mark-ring-requires
 mark-ring-requires c κs = search needs

@@ -1,7 +1,6 @@
 -- `skeleton::skeleton` meets its contract: a trouble is refused and changes nothing, and without one the skeleton is put.
 -- Assumes nothing.
 use borrow.Author.Needs.{needs}
-use native.Mathlib.Omega.{arith}
 use mathlib.Core.Path.{_≡_, sym, ap, _∙_}
 use mathlib.Core.Option.{none}
 use Rattle.rules.specs.Calls.{skeleton-trouble}

@@ -1,7 +1,6 @@
 -- `skeleton::skeleton_trouble` meets its contract: a trouble of the network or the work memory comes first, then one of the
 -- list for the tails, then one of that for the heads. Assumes nothing.
 use borrow.Author.Needs.{needs}
-use native.Mathlib.Omega.{arith}
 use mathlib.Core.Path.{_≡_, sym, ap, _∙_}
 use mathlib.Core.List.{List, [], _∷_, _++_}
 use mathlib.Core.Option.{none}

@@ -1,7 +1,6 @@
 -- `skeleton::sketch` meets its contract: the memory is readied, the zones get their names, the arcs of all zones are put,
 -- and clearing leaves what came behind. Assumes nothing.
 use borrow.Author.Needs.{needs}
-use native.Mathlib.Omega.{arith}
 use lib.ListN.{length}
 use Rattle.rules.specs.Network.{network-of}
 use Rattle.rules.specs.Calls.{arcs-of}

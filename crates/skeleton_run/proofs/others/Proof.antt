@@ -1,37 +1,41 @@
+-- `skeleton_run::others` is safe and ends. The loop's invariant: the count is at most the place. Assumes nothing.
 use borrow.Author.Needs.{needs}
 use native.Mathlib.Omega.{arith}
+use Prim.Native.Nat.{_≤_, _-_}
+use mathlib.Core.Logic.{⊎-elim}
+use lib.ListN.{length}
 use Rattle.skeleton_run.proofs.others.Statement.{statement}
 use Rattle.skeleton_run.proofs.others.Tie as tie
 
 abbrev Inv-loop : tie.InvT-loop
-Inv-loop list x n₀ i₀ n i = ?
+Inv-loop list x n₀ i₀ n i = (i ≤ length list) × (n ≤ i)
 
 abbrev μ-loop : tie.MeasureT-loop
-μ-loop list x n₀ i₀ n i = ?
+μ-loop list x n₀ i₀ n i = length list - i
 
 loop-holds : tie.Need-loop-holds Inv-loop μ-loop
-loop-holds c = ?
+loop-holds c = search needs
 
 mul-if1 : tie.Need-mul-if1 Inv-loop μ-loop
-mul-if1 c = ?
+mul-if1 c = search needs
 
 shared-slice-read-if1 : tie.Need-shared-slice-read-if1 Inv-loop μ-loop
-shared-slice-read-if1 c = ?
+shared-slice-read-if1 c = search needs
 
 add-n : tie.Need-add-n Inv-loop μ-loop
-add-n c = ?
+add-n c = search needs
 
 add-i : tie.Need-add-i Inv-loop μ-loop
-add-i c = ?
+add-i c = search needs
 
 loop-less : tie.Need-loop-less Inv-loop μ-loop
-loop-less c = ?
+loop-less c = search needs
 
 loop-again : tie.Need-loop-again Inv-loop μ-loop
-loop-again c = ?
+loop-again c = ⊎-elim (λ w. (omega arith, omega arith)) (λ w. (omega arith, omega arith)) (c .if1 .came)
 
 returns : tie.Need-returns Inv-loop μ-loop
-returns c = ?
+returns c = search needs
 
 pub others-spec : {M : Type 1} → statement M
 others-spec =

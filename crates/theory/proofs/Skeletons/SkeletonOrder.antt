@@ -27,7 +27,7 @@ use Rattle.theory.proofs.Reaching.Components.{
   name-name,
   name-agree,
 }
-use Rattle.theory.proofs.Skeletons.SkeletonLaws.{Between, Joined, Crosses}
+use Rattle.theory.proofs.Skeletons.SkeletonLaws.{Joined, Crosses}
 use Rattle.theory.proofs.Skeletons.Gap.{Leaving, leaving, joined-reach}
 
 -- d names a component, not a's, that an arc joins a's to

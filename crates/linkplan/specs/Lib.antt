@@ -1,0 +1,2 @@
+-- What the contracts of linkplan cite.
+pub mod Buffers

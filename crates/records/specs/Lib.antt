@@ -1,0 +1,3 @@
+-- What PLAN over records promises.
+pub mod Filling
+pub mod Promise
