@@ -2,7 +2,7 @@
 // same to a C programmer.
 ghost use mathlib.Core.Path.{_≡_};
 ghost use mathlib.Core.List.{[], _∷_};
-ghost use Rattle.rules.specs.Answers.{kind-number, yes-number, answer-eight, done, refused, trouble-refusal};
+ghost use Rattle.rules.specs.Answers.{kind-number, yes-number, answer-eight, refused, trouble-refusal};
 ghost use Rattle.clib.specs.Promises.{C-read, C-write, C-strong, C-reach, C-skeleton, C-plan};
 use netfile::read;
 use netfile::write;

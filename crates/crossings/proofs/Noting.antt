@@ -3,17 +3,17 @@
 --   directed-none, directed-turn     no arc yet, and one arc more
 -- A look keeps the names, so what an arc leads to is the same at every turn. Assumes nothing.
 use mathlib.Core.Path.{_≡_, refl, sym, _∙_}
-use mathlib.Core.Logic.{inl, inr, ⊎-elim, _≢_}
+use mathlib.Core.Logic.{inl, inr, ⊎-elim}
 use mathlib.Core.List.{List}
 use Prim.Native.Nat.{ℕ, _+_, _*_, _≤_, _<_}
 use native.Mathlib.Omega.{arith}
 use lib.ListN.{length, getD, set, length-set}
-use lib.Seq.{getD-set-same, getD-set-other, take-set-le, drop-set-lt}
-use Rattle.rows.specs.Marks.{Marked}
-use Rattle.rows.proofs.Zeros.{same?, below?}
+use lib.Seq.{take-set-le, drop-set-lt}
+use Rattle.rows.proofs.Zeros.{below?}
 use Rattle.rows.proofs.Regions.{at-kept}
 use Rattle.crossings.specs.Named.{name-at}
 use Rattle.crossings.specs.Direct.{Leads, Notable, Noted, Directable, Directed}
+use Rattle.crossings.proofs.MarkSet.{set-marked, set-kept, set-was}
 
 -- the arc leads nowhere, and nothing changes
 pub noted-none : (w : List ℕ) (n a tail head : ℕ) → ((d : ℕ) → Leads (name-at w n) a tail head d → ⊥) →
@@ -34,17 +34,9 @@ module _ (w : List ℕ) (n a tail head d : ℕ) (R : Notable w n tail head) (L :
   pub led-zone : d < n
   led-zone = omega (arith, R .names head (R .head-zone), L .to)
 
-  -- it has a mark now
-  set-marked : (v : ℕ) → v ≡ d → Marked (set w (2 * n + d) 1) (2 * n) v
-  set-marked v q e =
-      let here : 2 * n + d < length w = omega (arith, R .fits, led-zone) in
-      let stored : getD (set w (2 * n + d) 1) (2 * n + d) 0 ≡ 1 = getD-set-same w (2 * n + d) 1 0 here in
-      let zero : getD (set w (2 * n + d) 1) (2 * n + d) 0 ≡ 0 = rw q at e in
-      omega arith
-
-  -- every other mark is as it was
-  set-other : (v : ℕ) → v ≢ d → getD (set w (2 * n + d) 1) (2 * n + v) 0 ≡ getD w (2 * n + v) 0
-  set-other v ne = getD-set-other w (2 * n + d) (2 * n + v) 1 0 (λ e. ne (omega arith))
+  -- its mark lies in the memory
+  led-inside : 2 * n + d < length w
+  led-inside = omega (arith, R .fits, led-zone)
 
   -- the mark of d is set
   pub noted-set : Noted w (set w (2 * n + d) 1) n a tail head
@@ -53,10 +45,9 @@ module _ (w : List ℕ) (n a tail head d : ℕ) (R : Notable w n tail head) (L :
         long = length-set w (2 * n + d) 1;
         low = take-set-le (2 * n) w (2 * n + d) 1 (omega arith);
         high = drop-set-lt (3 * n) w (2 * n + d) 1 (omega (arith, led-zone));
-        old = λ v h m. ⊎-elim (set-marked v) (λ ne e. m (sym (set-other v ne) ∙ e)) (same? v d);
-        new = λ v h m.
-            ⊎-elim (λ (q : v ≡ d). inr (rw q L)) (λ ne. inl (λ e. m (set-other v ne ∙ e))) (same? v d);
-        own = λ v l. set-marked v (sym (l .to) ∙ L .to);
+        old = λ v h m. set-kept w (2 * n) d led-inside v m;
+        new = λ v h m. ⊎-elim (λ o. inl o) (λ (q : v ≡ d). inr (rw q L)) (set-was w (2 * n) d led-inside v m);
+        own = λ v l. set-marked w (2 * n) d led-inside v (sym (l .to) ∙ L .to);
       }
 
 module _ (w : List ℕ) (n a : ℕ) (ts hs : List ℕ) (R : Directable w n ts hs) where

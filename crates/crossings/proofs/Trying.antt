@@ -9,11 +9,11 @@ use mathlib.Core.List.{List}
 use Prim.Native.Nat.{ℕ, _+_, _*_, _≤_, _<_}
 use native.Mathlib.Omega.{arith}
 use lib.ListN.{length, getD, drop, set, length-set}
-use lib.Seq.{getD-set-same, getD-set-other, drop-set-lt}
+use lib.Seq.{getD-set-other, drop-set-lt}
 use Rattle.rows.specs.Rows.{Sound, rows-of}
 use Rattle.rows.specs.Marks.{Marked}
 use Rattle.rows.specs.Work.{starts-at, rows-at}
-use Rattle.rows.proofs.Zeros.{same?, below?}
+use Rattle.rows.proofs.Zeros.{below?}
 use Rattle.rows.proofs.Regions.{at-kept}
 use Rattle.search.specs.Marking.{Closed, Searchable, Searched}
 use Rattle.search.proofs.Keeping.{drop-deeper}
@@ -21,6 +21,7 @@ use Rattle.search.proofs.Closed.{closed-run, clear-closed}
 use Rattle.search.proofs.Course.{laid-same}
 use Rattle.crossings.specs.Named.{top-at}
 use Rattle.crossings.specs.Choosing.{Came, Picked, Triable, Tried, Choosable, Choosing}
+use Rattle.crossings.proofs.MarkSet.{set-marked, set-kept, set-was}
 
 -- equal marks over equal rows are closed alike
 closed-same : (w w' : List ℕ) (zones starts rows marks : ℕ) → Sound (rows-of w zones starts rows) →
@@ -56,10 +57,6 @@ module _ (w : List ℕ) (n c : ℕ) (T : Triable w n c) where
   pub chosen-inside : 3 * n + c < length w
   chosen-inside = omega (arith, T .laid .order, T .laid .fits, T .zone)
 
-  -- the mark stands
-  chosen-stored : getD with-chosen (3 * n + c) 0 ≡ 1
-  chosen-stored = getD-set-same w (3 * n + c) 1 0 chosen-inside
-
   -- every other element is as it was
   chosen-other : (i : ℕ) → i ≢ 3 * n + c → getD with-chosen i 0 ≡ getD w i 0
   chosen-other i ne = getD-set-other w (3 * n + c) i 1 0 ne
@@ -90,15 +87,13 @@ module _ (w : List ℕ) (n c : ℕ) (T : Triable w n c) where
     past : (i : ℕ) → n + n ≤ i → getD w' i 0 ≡ getD with-chosen i 0
     past i h = at-kept with-chosen w' (n + n) i h (S .kept .above)
 
-    -- another mark among the chosen is as it was
-    past-other : (v : ℕ) → v ≢ c → getD w' (3 * n + v) 0 ≡ getD w (3 * n + v) 0
-    past-other v ne = past (3 * n + v) (omega arith) ∙ chosen-other (3 * n + v) (λ e. ne (omega arith))
+    -- a mark among the chosen stands when c is chosen, and afterwards
+    past-mark : (v : ℕ) → Marked with-chosen (3 * n) v → Marked w' (3 * n) v
+    past-mark v m e = m (sym (past (3 * n + v) (omega arith)) ∙ e)
 
-    -- c is chosen
-    past-chosen : (v : ℕ) → v ≡ c → Marked w' (3 * n) v
-    past-chosen v q e =
-        let zero : getD w' (3 * n + c) 0 ≡ 0 = rw q at e in
-        omega (arith, past (3 * n + c) (omega arith), chosen-stored)
+    -- a mark among the chosen afterwards stands when c is chosen
+    mark-past : (v : ℕ) → Marked w' (3 * n) v → Marked with-chosen (3 * n) v
+    mark-past v m e = m (past (3 * n + v) (omega arith) ∙ e)
 
     -- c is chosen, and the search has gone on from it
     pub tried-search : Marked w (2 * n) c → (Marked w 0 c → ⊥) → Tried w w' n c
@@ -117,13 +112,13 @@ module _ (w : List ℕ) (n c : ℕ) (T : Triable w n c) where
               (λ p. inr (direct, rw chosen-rows at p))
               (S .sound v h m);
           complete = λ v d p. S .complete v (rw chosen-rows p) .1;
-          kept = λ v h m. ⊎-elim (past-chosen v) (λ ne e. m (sym (past-other v ne) ∙ e)) (same? v c);
+          kept = λ v h m. past-mark v (set-kept w (3 * n) c chosen-inside v m);
           new = λ v h m.
               ⊎-elim
+              (λ o. inl o)
               (λ (q : v ≡ c). inr (q, (direct, free)))
-              (λ ne. inl (λ e. m (past-other v ne ∙ e)))
-              (same? v c);
-          own = λ d f. past-chosen c refl;
+              (set-was w (3 * n) c chosen-inside v (mark-past v m));
+          own = λ d f. past-mark c (set-marked w (3 * n) c chosen-inside c refl);
         }
 
 module _ (w : List ℕ) (n m : ℕ) (R : Choosable w n m) where

@@ -82,7 +82,8 @@ pub fn mark_crossings(
     requires { ⌜ Named (now work) zones (now tails) (now heads) names ⌝ }
     requires { ⌜ Clear (now work) 0 (4 * zones) ⌝ }
     requires { ⌜ a < zones ⌝ }
-    ensures { λ r. ⌜ Crossed (now (work .entry)) (now (work .exit)) zones (now (tails .entry)) (now (heads .entry)) a ⌝ }
+    ensures { λ r. ⌜ Crossed (now (work .entry)) (now (work .exit)) zones (now (tails .entry)) (now (heads .entry))
+        a ⌝ }
 {
     let name = wide(work[5 * zones + a]);
     if name != a {

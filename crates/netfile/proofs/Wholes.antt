@@ -21,7 +21,7 @@ use Rattle.rules.specs.File.{Given, zones-bad, arcs-bad, arc-at, arcs-at, body-
 use Rattle.rules.specs.Calls.{read-finds, read-says, read-leaves-tails, read-leaves-heads}
 use Rattle.rules.specs.declared.Trouble.{Trouble}
 use Rattle.rules.specs.declared.ReadAnswer.{ReadAnswer}
-use Rattle.tests.proofs.Fine.{neither}
+use Rattle.theory.proofs.Ground.Bools.{or-false}
 use Rattle.netfile.specs.Readings.{zones-at, count-at}
 use Rattle.netfile.specs.Promises.{Put, Read-promise}
 use Rattle.netfile.proofs.Thens.{then-got, unless-got, unless-then, then-agree}
@@ -61,7 +61,7 @@ module _ (s : List ℕ) where
       let p = then-got (number-at s 0) _ n next e in
       let q = unless-got (zones-bad (p .0)) _ _ n next (p .3) in
       let w : p .0 ≡ n = cc in
-      rw w at (ltb-false 1024 (p .0) (neither (eqb (p .0) 0) (ltb 1024 (p .0)) (q .0) .1))
+      rw w at (ltb-false 1024 (p .0) (or-false (eqb (p .0) 0) (ltb 1024 (p .0)) (q .0) .1))
 
   module _ (a b : ℕ) where
     -- An arc count that is found has room in both lists.
@@ -72,7 +72,7 @@ module _ (s : List ℕ) where
         let q = unless-got (arcs-bad (p .0)) _ _ m next (p .3) in
         let r = unless-got (ltb a (p .0) || ltb b (p .0)) _ _ m next (q .1) in
         let w : p .0 ≡ m = cc in
-        let f = neither (ltb a (p .0)) (ltb b (p .0)) (r .0) in
+        let f = or-false (ltb a (p .0)) (ltb b (p .0)) (r .0) in
         (rw w at (ltb-false a (p .0) (f .0)), rw w at (ltb-false b (p .0) (f .1)))
 
     -- A file is its zone count and what follows.

@@ -3,7 +3,7 @@
 --   scaled                       where a record of a list lies fits a word
 --   filled-length                filling keeps the list's length
 --   columns-record               the record of index i of three columns is the record of the link of index i
---   filled-is                    filling from the columns of some links gives their records, and past them what was there
+--   filled-is                    filling from the columns of links gives their records, and past them what was there
 -- The first k records of a filled list are the first k of the links, by induction on k.
 -- Assumes nothing.
 use mathlib.Core.Path.{_≡_, refl, sym, ap, _∙_}

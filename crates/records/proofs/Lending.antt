@@ -1,4 +1,4 @@
--- A `&κ mut [T]` that is lent again for a lifetime κ′ of a call, and comes back: as a `&κ′ mut [T]`, and as a `&κ′ [T]`.
+-- A `&κ mut [T]` that is lent for a lifetime κ′ of a call, and comes back: as a `&κ′ mut [T]`, and as a `&κ′ [T]`.
 --   LentAgain, LentShared     what the holder keeps meanwhile: the lender's part at κ′, and its own borrow at κ, open
 --   lends-again, comes-back   lent as `&mut`: it comes back at the list that the callee leaves
 --   lends-shared, shared-back lent as `&`: it comes back as it was
@@ -15,7 +15,8 @@ use base.Logic.{ent, sep, ex}
 use base.Fml.{Lft, GName, Share, Fml, fsep, flft, fdead, fobs, fauth, flent, fobor}
 use prog.Wp.{Heap}
 use ghost.Atoms.{Atoms, sem}
-use types.Kit.{Given, ‵, _⊛_, some, later, _$_, _∵_, !, qed, move, use1, use3, drop, split, pick, rewrite, fsplit, fjoin, feqI, frame, await, updating, now as at-once, show, done}
+use types.Kit.{Given, ‵, _⊛_, some, later, _$_, _∵_, !, qed, move, use1, use3, drop, split, pick, rewrite, fsplit}
+use types.Kit.{fjoin, feqI, frame, await, updating, now as at-once, show, done}
 use types.SemTy.{cells, Arr}
 use types.Share.{arr-parts}
 use types.Tokens.{lent-back}

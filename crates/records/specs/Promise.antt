@@ -1,6 +1,7 @@
 -- What PLAN over records promises, and what its core leaves.
 --   records-trouble       the first test that fails, where room records are lent
---   records-says          what the answer says;  records-leave-links, records-leaves-work   what is left in what was lent
+--   records-says          what the answer says
+--   records-leave-links, records-leaves-work   what the lent records and the work memory hold afterwards
 --   Records-promise ..    the answer, and what the records and the work memory hold afterwards, for every input
 --   Planned ..            what the core leaves: filling the records from it and clearing it keeps the promise
 use mathlib.Core.Path.{_≡_}

@@ -3,7 +3,7 @@
 ghost use mathlib.Core.Path.{_≡_};
 ghost use Prim.Native.Nat.{_+_, _*_, _≤_, _<_};
 ghost use lib.ListN.{length};
-ghost use Rattle.records.specs.Filling.{Readable, link-at, filled, need-of, Finishable, finished};
+ghost use Rattle.records.specs.Filling.{why-numbered, Readable, link-at, filled, need-of, Finishable, finished};
 ghost use Rattle.records.specs.Promise.{Planned, Records-promise};
 use network::asked_work;
 use plan::lay;
@@ -61,6 +61,17 @@ fn need_of(answer: PlanAnswer) -> usize
     }
 }
 
+// The why of a number.
+fn why_of(k: u16) -> Why
+    ensures { λ r. ⌜ r ≡ why-numbered k ⌝ }
+{
+    match k {
+        0 => Why::Ring,
+        1 => Why::Chain,
+        _ => Why::Back,
+    }
+}
+
 // The link of index i, from the three columns of the work memory.
 fn link_at(work: &[u16], zones: usize, i: usize) -> Link
     requires { ⌜ 11 * zones + i < length (now work) ⌝ }
@@ -68,23 +79,11 @@ fn link_at(work: &[u16], zones: usize, i: usize) -> Link
 {
     let from = work[i];
     let to = work[zones + i];
-    let k = work[11 * zones + i];
-    match k {
-        0 => Link {
-            from,
-            to,
-            why: Why::Ring,
-        },
-        1 => Link {
-            from,
-            to,
-            why: Why::Chain,
-        },
-        _ => Link {
-            from,
-            to,
-            why: Why::Back,
-        },
+    let why = why_of(work[11 * zones + i]);
+    Link {
+        from: from,
+        to: to,
+        why: why,
     }
 }
 

@@ -1,16 +1,15 @@
 -- What setting the mark of the zone that follows in the ring does.
 --   ringed-none, ringed-set     there is no other zone; there is one, and its mark is set
 -- Assumes nothing.
-use mathlib.Core.Path.{_≡_, refl, sym, _∙_}
-use mathlib.Core.Logic.{inl, inr, ⊎-elim, _≢_}
+use mathlib.Core.Path.{refl}
+use mathlib.Core.Logic.{inl}
 use mathlib.Core.List.{List}
 use Prim.Native.Nat.{ℕ, _+_, _*_, _≤_, _<_}
 use native.Mathlib.Omega.{arith}
-use lib.ListN.{length, getD, set, length-set}
-use lib.Seq.{getD-set-same, getD-set-other, drop-set-lt}
-use Rattle.rows.specs.Marks.{Marked}
-use Rattle.rows.proofs.Zeros.{same?}
+use lib.ListN.{length, set, length-set}
+use lib.Seq.{drop-set-lt}
 use Rattle.crossings.specs.Named.{name-at}
+use Rattle.crossings.proofs.MarkSet.{set-marked, set-kept, set-was}
 use Rattle.ring.specs.Ring.{Ringable, Ring-next, Ringed}
 
 module _ (w : List ℕ) (n a r : ℕ) (R : Ringable w n a) (ring : Ring-next (name-at w n) n a r) where
@@ -29,17 +28,9 @@ module _ (w : List ℕ) (n a r : ℕ) (R : Ringable w n a) (ring : Ring-next (na
 
   -- the mark of what follows is set
   module _ (low : r < n) where
-    -- it stands
-    set-marked : (v : ℕ) → v ≡ r → Marked (set w (3 * n + r) 1) (3 * n) v
-    set-marked v q e =
-        let here : 3 * n + r < length w = omega (arith, R .fits) in
-        let stored : getD (set w (3 * n + r) 1) (3 * n + r) 0 ≡ 1 = getD-set-same w (3 * n + r) 1 0 here in
-        let zero : getD (set w (3 * n + r) 1) (3 * n + r) 0 ≡ 0 = rw q at e in
-        omega arith
-
-    -- every other mark is as it was
-    set-other : (v : ℕ) → v ≢ r → getD (set w (3 * n + r) 1) (3 * n + v) 0 ≡ getD w (3 * n + v) 0
-    set-other v ne = getD-set-other w (3 * n + r) (3 * n + v) 1 0 (λ e. ne (omega arith))
+    -- it lies in the memory
+    inside : 3 * n + r < length w
+    inside = omega (arith, R .fits)
 
     -- the mark is set, and the others are as they were
     pub ringed-set : Ringed w (set w (3 * n + r) 1) n a
@@ -49,8 +40,7 @@ module _ (w : List ℕ) (n a r : ℕ) (R : Ringable w n a) (ring : Ring-next (na
           ring = ring;
           long = length-set w (3 * n + r) 1;
           high = drop-set-lt (4 * n) w (3 * n + r) 1 (omega arith);
-          old = λ v h m. ⊎-elim (set-marked v) (λ ne e. m (sym (set-other v ne) ∙ e)) (same? v r);
-          new = λ v h m.
-              ⊎-elim (λ (q : v ≡ r). inr q) (λ ne. inl (λ e. m (set-other v ne ∙ e))) (same? v r);
-          own = λ l. set-marked r refl;
+          old = λ v h m. set-kept w (3 * n) r inside v m;
+          new = λ v h m. set-was w (3 * n) r inside v m;
+          own = λ l. set-marked w (3 * n) r inside r refl;
         }

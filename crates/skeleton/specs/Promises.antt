@@ -21,13 +21,14 @@ use Rattle.rules.specs.Calls.{
 }
 use Rattle.network.specs.Ready.{Readyable}
 
--- SKELETON for n zones, tails ts and heads hs, where the lists ots and ohs and the work memory w are lent: the answer r,
--- and what the three hold afterwards
-pub record Skeleton-promise (n : ℕ) (ts hs ots ohs w : List ℕ) (r : SkeletonAnswer) (ots' ohs' w' : List ℕ) : Type 0 where
-  pub says : skeleton-told r ≡ skeleton-says n ts hs w ots ohs
-  pub tails : ots' ≡ skeleton-leaves-tails n ts hs w ots ohs
-  pub heads : ohs' ≡ skeleton-leaves-heads n ts hs w ots ohs
-  pub work : w' ≡ skeleton-leaves-work n ts hs w ots ohs
+-- SKELETON for n zones, tails ts and heads hs, where the lists ots and ohs and the work memory w are lent: the answer
+-- r, and what the three hold afterwards
+pub record Skeleton-promise (n : ℕ) (ts hs ots ohs w : List ℕ) (r : SkeletonAnswer) (ots' ohs' w' : List ℕ) : Type 0
+  where
+    pub says : skeleton-told r ≡ skeleton-says n ts hs w ots ohs
+    pub tails : ots' ≡ skeleton-leaves-tails n ts hs w ots ohs
+    pub heads : ohs' ≡ skeleton-leaves-heads n ts hs w ots ohs
+    pub work : w' ≡ skeleton-leaves-work n ts hs w ots ohs
 
 -- a network and lent lists that pass the tests
 pub record Sketchable (n : ℕ) (ts hs ots ohs w : List ℕ) : Type 0 where

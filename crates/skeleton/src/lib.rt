@@ -86,8 +86,8 @@ fn put_zone(
     requires { ⌜ a < zones ⌝ }
     requires { ⌜ Roomy (now from) (now to) at
         (skeleton-row (handed zones (now tails) (now heads)) zones a) ⌝ }
-    ensures { λ r. ⌜ Zone-put (now (work .entry)) (now (work .exit)) zones (now (tails .entry)) (now (heads .entry)) a
-        (now (from .entry)) (now (to .entry)) (now (from .exit)) (now (to .exit)) at r ⌝ }
+    ensures { λ r. ⌜ Zone-put (now (work .entry)) (now (work .exit)) zones (now (tails .entry)) (now (heads .entry))
+        a (now (from .entry)) (now (to .entry)) (now (from .exit)) (now (to .exit)) at r ⌝ }
 {
     clear(work, 4 * zones);
     mark_crossings(tails, heads, work, zones, names, a);
@@ -108,8 +108,8 @@ fn put_rows(
     requires { ⌜ Named (now work) zones (now tails) (now heads) names ⌝ }
     requires { ⌜ length (now tails) ≤ length (now from) ⌝ }
     requires { ⌜ length (now tails) ≤ length (now to) ⌝ }
-    ensures { λ r. ⌜ Rows-put (now (work .entry)) (now (work .exit)) zones (now (tails .entry)) (now (heads .entry)) zones
-        (now (from .entry)) (now (to .entry)) (now (from .exit)) (now (to .exit)) r ⌝ }
+    ensures { λ r. ⌜ Rows-put (now (work .entry)) (now (work .exit)) zones (now (tails .entry)) (now (heads .entry))
+        zones (now (from .entry)) (now (to .entry)) (now (from .exit)) (now (to .exit)) r ⌝ }
 {
     let mut a = 0;
     let mut next = 0;

@@ -1,5 +1,5 @@
--- `crossings::mark_crossings` meets its contract: from a zone that is no name no arc crosses, and from a name the chosen
--- ones are the heads. Assumes nothing.
+-- `crossings::mark_crossings` meets its contract: from a zone that is no name no arc crosses, and from a name the
+-- chosen ones are the heads. Assumes nothing.
 use borrow.Author.Needs.{needs}
 use mathlib.Core.Path.{sym, _∙_}
 use Rattle.crossings.proofs.Crossing.{crossed-none, crossed-direct, crossed-choose, crossed-all}
@@ -26,23 +26,23 @@ returns : tie.Need-returns
 returns c =
     let s = c .before .before .before .before .before .before in
     let a = s .args in
-    crossed-none (a .work .now) (a .zones) (a .tails .now) (a .heads .now) (a .names) (s .pre .0) (s .pre .1 .0) (a .a)
-    (s .pre .1 .1) (λ e. c .if1 .taken (c .before .wide .ensures ∙ e))
+    crossed-none (a .work .now) (a .zones) (a .tails .now) (a .heads .now) (a .names) (s .pre .0) (s .pre .1 .0)
+    (a .a) (s .pre .1 .1) (λ e. c .if1 .taken (c .before .wide .ensures ∙ e))
 
 mark-direct-requires : tie.Need-mark-direct-requires
 mark-direct-requires c κs =
     let s = c .before .before .before .before .before .before .before in
     let a = s .args in
-    crossed-direct (a .work .now) (a .zones) (a .tails .now) (a .heads .now) (a .names) (s .pre .0) (s .pre .1 .0) (a .a)
-    (s .pre .1 .1)
+    crossed-direct (a .work .now) (a .zones) (a .tails .now) (a .heads .now) (a .names) (s .pre .0) (s .pre .1 .0)
+    (a .a) (s .pre .1 .1)
 
 choose-requires : tie.Need-choose-requires
 choose-requires c κs =
     let d = c .before .before .before in
     let s = d .before .before .before .before .before .before .before .before in
     let a = s .args in
-    crossed-choose (a .work .now) (a .zones) (a .tails .now) (a .heads .now) (a .names) (s .pre .0) (s .pre .1 .0) (a .a)
-    (s .pre .1 .1) (d .mark-direct .last .1 .1 .0) (d .mark-direct .ensures)
+    crossed-choose (a .work .now) (a .zones) (a .tails .now) (a .heads .now) (a .names) (s .pre .0) (s .pre .1 .0)
+    (a .a) (s .pre .1 .1) (d .mark-direct .last .1 .1 .0) (d .mark-direct .ensures)
 
 same-length : tie.Need-same-length
 same-length c = search needs
@@ -54,8 +54,8 @@ returns-2 c =
     let t = d .before .before in
     let s = t .before .before .before .before .before .before in
     let a = s .args in
-    crossed-all (a .work .now) (a .zones) (a .tails .now) (a .heads .now) (a .names) (s .pre .0) (s .pre .1 .0) (a .a)
-    (s .pre .1 .1) (d .mark-direct .last .1 .1 .0) (d .mark-direct .ensures)
+    crossed-all (a .work .now) (a .zones) (a .tails .now) (a .heads .now) (a .names) (s .pre .0) (s .pre .1 .0)
+    (a .a) (s .pre .1 .1) (d .mark-direct .last .1 .1 .0) (d .mark-direct .ensures)
     (sym (t .before .wide .ensures) ∙ t .if1 .left) (e .choose .last .0) (e .choose .ensures)
 
 pub mark-crossings-spec : {M : Type 1} → statement M

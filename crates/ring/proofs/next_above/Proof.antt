@@ -1,5 +1,5 @@
--- `ring::next_above` meets its contract: no zone that was passed has the name. The measure is what is left of the zones.
--- Assumes nothing.
+-- `ring::next_above` meets its contract: no zone that was passed has the name. The measure is what is left of the
+-- zones. Assumes nothing.
 use borrow.Author.Needs.{needs}
 use native.Mathlib.Omega.{arith}
 use Prim.Native.Nat.{ℕ, _≤_, _<_, _-_}

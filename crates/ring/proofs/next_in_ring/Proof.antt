@@ -1,4 +1,5 @@
--- `ring::next_in_ring` meets its contract: the next zone above, or else the lowest, where that is another. Assumes nothing.
+-- `ring::next_in_ring` meets its contract: the next zone above, or else the lowest, where that is another.
+-- Assumes nothing.
 use borrow.Author.Needs.{needs}
 use native.Mathlib.Omega.{arith}
 use mathlib.Core.Path.{_≡_, sym, _∙_}
@@ -11,7 +12,8 @@ use Rattle.ring.proofs.next_in_ring.Tie as tie
 -- there is no zone above with the name
 none-above : (c : tie.Else1) →
     let a = c .before .before .before .before .args in
-    First-above (name-at (a .work .now) (a .zones)) (a .zones) (a .a) (name-at (a .work .now) (a .zones) (a .a)) (a .zones)
+    First-above (name-at (a .work .now) (a .zones)) (a .zones) (a .a) (name-at (a .work .now) (a .zones) (a .a))
+    (a .zones)
 none-above c =
     let a = c .before .before .before .before .args in
     let n = c .before .next-above in

@@ -1,4 +1,5 @@
--- `skeleton::put` meets its contract: an arc whose head has no mark is left out, and any other is stored. Assumes nothing.
+-- `skeleton::put` meets its contract: an arc whose head has no mark is left out, and any other is stored.
+-- Assumes nothing.
 use borrow.Author.Needs.{needs}
 use Rattle.skeleton.proofs.Puts.{put-miss, put-hit, hit-room}
 use Rattle.skeleton.proofs.put.Statement.{statement}
@@ -31,8 +32,8 @@ slice-write-tails : tie.Need-slice-write-tails
 slice-write-tails c =
     let s = c .before .before in
     let a = s .args in
-    hit-room (a .work .now) (a .zones) (a .a) (a .b) (a .tails .now) (a .heads .now) (a .at) (c .if1 .left) (s .pre .1 .1)
-    .0
+    hit-room (a .work .now) (a .zones) (a .a) (a .b) (a .tails .now) (a .heads .now) (a .at) (c .if1 .left)
+    (s .pre .1 .1) .0
 
 cast-heads : tie.Need-cast-heads
 cast-heads c = search needs
@@ -44,8 +45,8 @@ slice-write-heads : tie.Need-slice-write-heads
 slice-write-heads c =
     let s = c .before .before in
     let a = s .args in
-    hit-room (a .work .now) (a .zones) (a .a) (a .b) (a .tails .now) (a .heads .now) (a .at) (c .if1 .left) (s .pre .1 .1)
-    .1
+    hit-room (a .work .now) (a .zones) (a .a) (a .b) (a .tails .now) (a .heads .now) (a .at) (c .if1 .left)
+    (s .pre .1 .1) .1
 
 add-result : tie.Need-add-result
 add-result c = search needs

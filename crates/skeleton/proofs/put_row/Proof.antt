@@ -1,5 +1,5 @@
--- `skeleton::put_row` meets its contract: after `b` turns the arcs to the zones below `b` are put. The measure is what is
--- left of the zones. Assumes nothing.
+-- `skeleton::put_row` meets its contract: after `b` turns the arcs to the zones below `b` are put. The measure is what
+-- is left of the zones. Assumes nothing.
 use borrow.Author.Needs.{needs}
 use native.Mathlib.Omega.{arith}
 use Prim.Native.Nat.{_≤_, _-_}

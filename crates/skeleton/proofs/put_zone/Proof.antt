@@ -1,4 +1,5 @@
--- `skeleton::put_zone` meets its contract: what has a mark in the end is an arc of the skeleton, and is put. Assumes nothing.
+-- `skeleton::put_zone` meets its contract: what has a mark in the end is an arc of the skeleton, and is put.
+-- Assumes nothing.
 use borrow.Author.Needs.{needs}
 use Prim.Native.Nat.{_*_}
 use Rattle.rules.specs.Lists.{cleared}

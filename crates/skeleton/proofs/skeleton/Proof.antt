@@ -1,5 +1,5 @@
--- `skeleton::skeleton` meets its contract: a trouble is refused and changes nothing, and without one the skeleton is put.
--- Assumes nothing.
+-- `skeleton::skeleton` meets its contract: a trouble is refused and changes nothing, and without one the skeleton is
+-- put. Assumes nothing.
 use borrow.Author.Needs.{needs}
 use mathlib.Core.Path.{_≡_, sym, ap, _∙_}
 use mathlib.Core.Option.{none}

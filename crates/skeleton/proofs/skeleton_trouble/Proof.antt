@@ -1,5 +1,5 @@
--- `skeleton::skeleton_trouble` meets its contract: a trouble of the network or the work memory comes first, then one of the
--- list for the tails, then one of that for the heads. Assumes nothing.
+-- `skeleton::skeleton_trouble` meets its contract: a trouble of the network or the work memory comes first, then one
+-- of the list for the tails, then one of that for the heads. Assumes nothing.
 use borrow.Author.Needs.{needs}
 use mathlib.Core.Path.{_≡_, sym, ap, _∙_}
 use mathlib.Core.List.{List, [], _∷_, _++_}

@@ -1,5 +1,5 @@
--- `skeleton::sketch` meets its contract: the memory is readied, the zones get their names, the arcs of all zones are put,
--- and clearing leaves what came behind. Assumes nothing.
+-- `skeleton::sketch` meets its contract: the memory is readied, the zones get their names, the arcs of all zones are
+-- put, and clearing leaves what came behind. Assumes nothing.
 use borrow.Author.Needs.{needs}
 use lib.ListN.{length}
 use Rattle.rules.specs.Network.{network-of}

@@ -1,4 +1,5 @@
--- `skeleton_run::sum` is safe and ends. The loop's invariant: the sum is at most 65,535 for each element. Assumes nothing.
+-- `skeleton_run::sum` is safe and ends. The loop's invariant: the sum is at most 65,535 for each element.
+-- Assumes nothing.
 use borrow.Author.Needs.{needs}
 use native.Mathlib.Omega.{arith}
 use Prim.Native.Nat.{_≤_, _*_, _-_}

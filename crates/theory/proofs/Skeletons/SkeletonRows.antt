@@ -36,6 +36,10 @@ pub keep-append : (p : Arc → Bool) (xs ys : List Arc) → keep p (xs ++ ys) �
 keep-append p [] ys = refl
 keep-append p (x ∷ xs) ys = keep-first p x xs ys (xs ++ ys) (keep-append p xs ys) (p x)
 
+-- a front of a list is no longer than the list
+front-few : {xs : List Arc} (front rest : List Arc) → xs ≡ front ++ rest → length front ≤ length xs
+front-few front rest e = omega (arith, ap length e ∙ length-append front rest)
+
 -- a run of numbers is cut anywhere
 run-append : (a m k : ℕ) → run a (m + k) ≡ run a m ++ run (a + m) k
 run-append a zero k = rw (zero-plus k, plus-zero a)
@@ -61,7 +65,8 @@ rows-append : (hs ts us : List ℕ) → pair-rows hs (ts ++ us) ≡ pair-rows hs
 unfolding flatMap
 rows-append hs [] us = refl
 rows-append hs (t ∷ ts) us =
-    ap (λ (l : List Arc). pair-row hs t ++ l) (rows-append hs ts us) ∙ sym (append-assoc (pair-row hs t) (pair-rows hs ts) (pair-rows hs us))
+    ap (λ (l : List Arc). pair-row hs t ++ l) (rows-append hs ts us)
+    ∙ sym (append-assoc (pair-row hs t) (pair-rows hs ts) (pair-rows hs us))
 
 -- the row of a lone tail
 rows-one : (hs : List ℕ) (a : ℕ) → pair-rows hs (a ∷ []) ≡ pair-row hs a
@@ -86,21 +91,19 @@ pub row-few : (p : Arc → Bool) (a b n : ℕ) → b ≤ n
     → length (keep p (pair-row (run 0 b) a)) ≤ length (keep p (pair-row (run 0 n) a))
 row-few p a b n h =
     let sum : n ≡ b + (n - b) = omega arith in
-    let front = keep p (pair-row (run 0 b) a) in
-    let rest = keep p (pair-row (run (0 + b) (n - b)) a) in
-    let whole : keep p (pair-row (run 0 n) a) ≡ front ++ rest =
-    ap (λ (k : ℕ). keep p (pair-row (run 0 k) a)) sum
+    front-few (keep p (pair-row (run 0 b) a)) (keep p (pair-row (run (0 + b) (n - b)) a))
+    (ap (λ (k : ℕ). keep p (pair-row (run 0 k) a)) sum
     ∙ ap (λ (l : List ℕ). keep p (pair-row l a)) (run-append 0 b (n - b))
     ∙ ap (keep p) (map-append (λ (x : ℕ). a ⟶ x) (run 0 b) (run (0 + b) (n - b)))
-    ∙ keep-append p (pair-row (run 0 b) a) (pair-row (run (0 + b) (n - b)) a) in
-    omega (arith, ap length whole ∙ length-append front rest)
+    ∙ keep-append p (pair-row (run 0 b) a) (pair-row (run (0 + b) (n - b)) a))
 
 -- one row more
 pub rows-next : (p : Arc → Bool) (hs : List ℕ) (a : ℕ)
     → keep p (pair-rows hs (run 0 (a + 1))) ≡ keep p (pair-rows hs (run 0 a)) ++ keep p (pair-row hs a)
 rows-next p hs a =
     ap (λ (l : List ℕ). keep p (pair-rows hs l)) (run-more a)
-    ∙ ap (keep p) (rows-append hs (run 0 a) (a ∷ []) ∙ ap (λ (l : List Arc). pair-rows hs (run 0 a) ++ l) (rows-one hs a))
+    ∙ ap (keep p)
+    (rows-append hs (run 0 a) (a ∷ []) ∙ ap (λ (l : List Arc). pair-rows hs (run 0 a) ++ l) (rows-one hs a))
     ∙ keep-append p (pair-rows hs (run 0 a)) (pair-row hs a)
 
 -- the rows of the first zones are no more than those of all
@@ -108,14 +111,11 @@ pub rows-few : (p : Arc → Bool) (hs : List ℕ) (a n : ℕ) → a ≤ n
     → length (keep p (pair-rows hs (run 0 a))) ≤ length (keep p (pair-rows hs (run 0 n)))
 rows-few p hs a n h =
     let sum : n ≡ a + (n - a) = omega arith in
-    let front = keep p (pair-rows hs (run 0 a)) in
-    let rest = keep p (pair-rows hs (run (0 + a) (n - a))) in
-    let whole : keep p (pair-rows hs (run 0 n)) ≡ front ++ rest =
-    ap (λ (k : ℕ). keep p (pair-rows hs (run 0 k))) sum
+    front-few (keep p (pair-rows hs (run 0 a))) (keep p (pair-rows hs (run (0 + a) (n - a))))
+    (ap (λ (k : ℕ). keep p (pair-rows hs (run 0 k))) sum
     ∙ ap (λ (l : List ℕ). keep p (pair-rows hs l)) (run-append 0 a (n - a))
     ∙ ap (keep p) (rows-append hs (run 0 a) (run (0 + a) (n - a)))
-    ∙ keep-append p (pair-rows hs (run 0 a)) (pair-rows hs (run (0 + a) (n - a))) in
-    omega (arith, ap length whole ∙ length-append front rest)
+    ∙ keep-append p (pair-rows hs (run 0 a)) (pair-rows hs (run (0 + a) (n - a))))
 
 -- the skeleton is what passes of all rows
 pub skeleton-rows : (N : Network) → skeleton N ≡ keep (in-skeleton N) (pair-rows (N .zones) (N .zones))
