@@ -2,7 +2,7 @@
 --   run-more, keep-append   a row of numbers and one more; what passes a test in two lists joined
 --   kind-kept, room-kept    names that are put leave what was noted, and the zones' names
 --   put-no, put-yes         one zone is tried
---   list-none, list-more    no zone is tried yet; one more is
+--   list-none, list-more    no zone is tried yet; one more is;  list-room, list-fits   one more may be tried
 --   keep-same               one list after the other: the second is as if it were the first
 -- The idea: what is put lies apart from what the tests read. Assumes nothing.
 use mathlib.Core.Path.{_≡_, refl, sym, ap, _∙_}

@@ -15,7 +15,7 @@ use Rattle.rules.specs.Number.{Reading, got, bad}
 use Rattle.rules.specs.File.{Given, file-at}
 use Rattle.rules.specs.Calls.{read-finds, read-says}
 use Rattle.rules.specs.Text.{printed, plan-lines, refusal-line}
-use Rattle.netfile.specs.Promises.{found-says}
+use Rattle.rules.specs.Calls.{found-says}
 use Rattle.theory.proofs.Files.AnswerLaws.{done-not-refused}
 use Rattle.linkplan.proofs.Numbered.{file-numbered}
 

@@ -1,9 +1,9 @@
 -- How many components of each kind there are, against the number of zones. With s sources, t sinks and q alone:
 --   keep-three    what is left only, entered only or neither is no more than there is
 --   kinds-few     s + t + q is no more than the number of zones
---   weak-two      a network that is not strong has two zones or more
 --   need-few      max(s, t) + q links, or none, are no more than the zones
---   sum-strong, strong-sum   a network is strong exactly where s + t + q is 1
+--   strong-sum, weak-sum     in a strong network s + t + q is 1, and in any other it is 2 or more
+--   sum-strong, sum-weak     so a network is strong exactly where s + t + q is 1
 -- Assumes nothing.
 use mathlib.Core.Path.{_≡_, refl, ap, _∙_}
 use mathlib.Core.Logic.{inl, inr}

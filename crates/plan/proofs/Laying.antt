@@ -1,5 +1,6 @@
 -- Laying a plan out: what stands in the memory is the plan, in each of its three cases.
---   sums-small      the numbers of the kinds are small
+--   pairs-few       there are no more pairs than sources;  sums-small   the numbers of the kinds are small
+--   laid-by         a memory in which the plan's links stand
 --   laid-strong     a strong network has no link
 --   for-upright, laid-upright   s ≤ t: the rule runs along the rows
 --   for-turned, laid-turned     s > t: the rule runs along the turned rows, and its links come out turned back
