@@ -2,14 +2,13 @@
 // same to a C programmer.
 ghost use mathlib.Core.Path.{_≡_};
 ghost use mathlib.Core.List.{[], _∷_};
-ghost use Rattle.rules.specs.Answers.{kind-number, yes-number, answer-eight, refused, trouble-refusal};
+ghost use Rattle.rules.specs.Answers.{yes-number, answer-eight, refused, trouble-refusal};
 ghost use Rattle.clib.specs.Promises.{C-read, C-write, C-strong, C-reach, C-skeleton, C-plan};
 use netfile::read;
 use netfile::write;
 use network::reach;
 use network::strong;
 use plan::plan;
-use rules::Kind;
 use rules::PlanAnswer;
 use rules::ReachAnswer;
 use rules::ReadAnswer;
@@ -17,25 +16,8 @@ use rules::SkeletonAnswer;
 use rules::StrongAnswer;
 use rules::Trouble;
 use rules::WriteAnswer;
+use rules::kind_number;
 use skeleton::skeleton;
-
-// The number of a kind of refusal.
-fn kind_number(kind: Kind) -> usize
-    ensures { λ r. ⌜ r ≡ kind-number kind ⌝ }
-{
-    match kind {
-        Kind::Short => 1,
-        Kind::Long => 2,
-        Kind::Loose => 3,
-        Kind::Zones => 4,
-        Kind::Arcs => 5,
-        Kind::Range => 6,
-        Kind::SelfArc => 7,
-        Kind::Extra => 8,
-        Kind::Room => 9,
-        Kind::Pair => 10,
-    }
-}
 
 // The number of a yes or a no.
 fn yes_number(yes: bool) -> usize

@@ -15,11 +15,12 @@ use Rattle.rules.specs.Network.Reach.{same}
 use Rattle.rules.specs.Components.{name, names}
 use Rattle.rules.specs.Calls.{arcs-of}
 use Rattle.rows.specs.Rows.{Entry, Run, rows-of}
-use Rattle.rows.proofs.ArcRows.{arcs-length, arcs-turned, between-turned}
+use Rattle.rows.proofs.ArcRows.{arcs-turned, between-turned}
 use Rattle.rows.proofs.ArrangedLaws.{arranged-sound, arranged-fits, arranged-entry, entry-arranged, reach-run}
 use Rattle.order.specs.Memory.{cell, Ready, Kept, Finished}
 use Rattle.rows.proofs.Regions.{at-kept, at-below}
 use Rattle.order.proofs.Regions.{take-on, drop-on}
+use Rattle.theory.proofs.Ground.ArcLists.{arcs-length}
 use Rattle.theory.proofs.Reaching.Components.{name-is-name, names-zone, names-distinct}
 use Rattle.theory.proofs.Ground.Ascending.{run-in}
 use Rattle.components.specs.Gather.{Queued}

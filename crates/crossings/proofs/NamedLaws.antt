@@ -13,10 +13,10 @@ use lib.ListN.{length, drop}
 use Rattle.rules.specs.Network.{Proper, Reach}
 use Rattle.rules.specs.Calls.{arcs-of, handed}
 use Rattle.tests.proofs.Fine.{fine-proper}
+use Rattle.theory.proofs.Ground.ArcLists.{arcs-length}
 use Rattle.theory.proofs.Ground.Ascending.{run-in, in-run}
 use Rattle.theory.proofs.Reaching.Components.{name-in}
 use Rattle.rows.specs.Work.{starts-at, rows-at}
-use Rattle.rows.proofs.ArcRows.{arcs-length}
 use Rattle.rows.proofs.ArrangedLaws.{arranged-kept, run-reach, reach-run}
 use Rattle.rows.proofs.Regions.{at-kept}
 use Rattle.search.specs.Marking.{Laid}

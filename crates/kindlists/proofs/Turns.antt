@@ -15,7 +15,7 @@ use native.Mathlib.Omega.{arith}
 use lib.ListN.{length, getD, set, length-append}
 use lib.Seq.{sets, length-sets}
 use Rattle.rules.specs.Lists.{run, keep}
-use Rattle.rows.specs.Marks.{one}
+use Rattle.rules.specs.Answers.{yes-number}
 use Rattle.rows.specs.Storing.{Stored}
 use Rattle.rows.proofs.Stores.{sets-append, getD-sets-low, getD-sets-high}
 use Rattle.order.specs.Memory.{cell}
@@ -49,27 +49,27 @@ keep-append p (x ∷ xs) ys =
     ]
 
 -- a test that counts for nothing says no
-one-no : (b : Bool) → one b ≡ 0 → b ≡ false
-one-no true e = absurd (omega arith)
-one-no false e = refl
+yes-none : (b : Bool) → yes-number b ≡ 0 → b ≡ false
+yes-none true e = absurd (omega arith)
+yes-none false e = refl
 
 -- a test that counts says yes
-one-yes : (b : Bool) → one b ≢ 0 → b ≡ true
-one-yes true e = refl
-one-yes false e = absurd (e refl)
+yes-some : (b : Bool) → yes-number b ≢ 0 → b ≡ true
+yes-some true e = refl
+yes-some false e = absurd (e refl)
 
 -- a zone that is not of the kind is not put
-pub put-no : (w : List ℕ) (n x y z at r : ℕ) → r ≡ one (own-kind w n x y z) → r ≡ 0 →
+pub put-no : (w : List ℕ) (n x y z at r : ℕ) → r ≡ yes-number (own-kind w n x y z) → r ≡ 0 →
     Stored w w at (keep (own-kind w n x y) (z ∷ [])) at
 put-no w n x y z at r e h =
-    rw (keep-miss (own-kind w n x y) {x = z} [] (one-no (own-kind w n x y z) (sym e ∙ h)))
+    rw (keep-miss (own-kind w n x y) {x = z} [] (yes-none (own-kind w n x y z) (sym e ∙ h)))
     (record { memory = refl; behind = omega arith })
 
 -- a zone that is of the kind is put
-pub put-yes : (w : List ℕ) (n x y z at r : ℕ) → r ≡ one (own-kind w n x y z) → r ≢ 0 →
+pub put-yes : (w : List ℕ) (n x y z at r : ℕ) → r ≡ yes-number (own-kind w n x y z) → r ≢ 0 →
     Stored w (set w at z) at (keep (own-kind w n x y) (z ∷ [])) (at + 1)
 put-yes w n x y z at r e h =
-    rw (keep-hit (own-kind w n x y) {x = z} [] (one-yes (own-kind w n x y z) (λ k. h (e ∙ k))))
+    rw (keep-hit (own-kind w n x y) {x = z} [] (yes-some (own-kind w n x y z) (λ k. h (e ∙ k))))
     (record { memory = refl; behind = refl })
 
 module _ (w : List ℕ) (n to : ℕ) (xs : List ℕ) (L : Listable w n to) (few : length xs ≤ n) where

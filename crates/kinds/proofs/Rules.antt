@@ -17,19 +17,19 @@ use borrow.Author.Tests.{eqb-true, eq-eqb}
 use Rattle.rules.specs.Lists.{any, keep, run}
 use Rattle.rules.specs.Network.{Arc, Network, network-of, Proper}
 use Rattle.rules.specs.Components.{together, name, is-name, names, entered, left, sources, sinks, alone}
-use Rattle.rows.specs.Marks.{one}
+use Rattle.rules.specs.Answers.{yes-number}
 use Rattle.order.specs.Memory.{cell}
+use Rattle.theory.proofs.Ground.ArcLists.{arcs-length}
 use Rattle.theory.proofs.Ground.Bools.{bool-cases, bool-agree}
 use Rattle.theory.proofs.Ground.Lists.{any-agree, keep-agree, in-keep}
 use Rattle.theory.proofs.Ground.Ascending.{run-in, in-run, network-proper}
 use Rattle.theory.proofs.Reaching.Components.{together-sound, together-complete, name-in, name-agree, name-apart}
 use Rattle.theory.proofs.Reaching.Components.{names-zone}
 use Rattle.rules.specs.Calls.{arcs-of}
-use Rattle.rows.proofs.ArcRows.{arcs-length}
 use Rattle.kinds.specs.Kinds.{comes, goes, own-kind, Markable, Marking, Nameful, Kinds}
 use Rattle.kinds.specs.declared.Counts.{Counts}
 use Rattle.kinds.proofs.Marks.{names-around}
-use Rattle.kinds.proofs.Tests.{keep-keep, one-zero, one-one, both-ways}
+use Rattle.kinds.proofs.Tests.{keep-keep, yes-zero, yes-one, both-ways}
 
 -- f gives each zone its name
 module _ {N : Network} (P : Proper N) (f : ℕ → ℕ) (named : (v : ℕ) → In v (N .zones) → f v ≡ name N v) where
@@ -56,12 +56,12 @@ module _ {N : Network} (P : Proper N) (f : ℕ → ℕ) (named : (v : ℕ) → I
 -- n zones and the arcs es: each zone's name stands in w, and for each name whether it is entered and left
 module _ (w : List ℕ) (n : ℕ) (es : List Arc)
     (named : (v : ℕ) → v < n → cell w (5 * n) v ≡ name (network-of n es) v)
-    (into : (c : ℕ) → In c (names (network-of n es)) → cell w (2 * n) c ≡ one (entered (network-of n es) c))
-    (out : (c : ℕ) → In c (names (network-of n es)) → cell w (3 * n) c ≡ one (left (network-of n es) c)) where
+    (into : (c : ℕ) → In c (names (network-of n es)) → cell w (2 * n) c ≡ yes-number (entered (network-of n es) c))
+    (out : (c : ℕ) → In c (names (network-of n es)) → cell w (3 * n) c ≡ yes-number (left (network-of n es) c)) where
   -- The names with x and y noted are those that pass a test, where for each name the test says just that.
   kind-count : (x y : ℕ) (q : ℕ → Bool)
       → ((c : ℕ) → In c (names (network-of n es))
-      → (eqb (one (entered (network-of n es) c)) x && eqb (one (left (network-of n es) c)) y) ≡ q c)
+      → (eqb (yes-number (entered (network-of n es) c)) x && eqb (yes-number (left (network-of n es) c)) y) ≡ q c)
       → keep (own-kind w n x y) (run 0 n) ≡ keep q (names (network-of n es))
   unfolding names is-name
   kind-count x y q same =
@@ -83,20 +83,20 @@ module _ (w : List ℕ) (n : ℕ) (es : List Arc)
   pub sources-count : keep (own-kind w n 0 1) (run 0 n) ≡ sources (network-of n es)
   unfolding sources
   sources-count = kind-count 0 1 (λ c. left (network-of n es) c && not (entered (network-of n es) c)) (λ c m.
-      ap₂ _&&_ (one-zero (entered (network-of n es) c)) (one-one (left (network-of n es) c))
+      ap₂ _&&_ (yes-zero (entered (network-of n es) c)) (yes-one (left (network-of n es) c))
       ∙ both-ways (entered (network-of n es) c) (left (network-of n es) c))
 
   -- Names that are entered and not left are the sinks.
   pub sinks-count : keep (own-kind w n 1 0) (run 0 n) ≡ sinks (network-of n es)
   unfolding sinks
   sinks-count = kind-count 1 0 (λ c. entered (network-of n es) c && not (left (network-of n es) c)) (λ c m.
-      ap₂ _&&_ (one-one (entered (network-of n es) c)) (one-zero (left (network-of n es) c)))
+      ap₂ _&&_ (yes-one (entered (network-of n es) c)) (yes-zero (left (network-of n es) c)))
 
   -- Names that are neither are alone.
   pub alone-count : keep (own-kind w n 0 0) (run 0 n) ≡ alone (network-of n es)
   unfolding alone
   alone-count = kind-count 0 0 (λ c. not (entered (network-of n es) c) && not (left (network-of n es) c)) (λ c m.
-      ap₂ _&&_ (one-zero (entered (network-of n es) c)) (one-zero (left (network-of n es) c)))
+      ap₂ _&&_ (yes-zero (entered (network-of n es) c)) (yes-zero (left (network-of n es) c)))
 
 -- each zone's name stands in w, and all arcs of ts and hs are noted in w'
 module _ {w ts hs : List ℕ} {n : ℕ} (I : Nameful w ts hs n) where
@@ -134,15 +134,15 @@ module _ {w ts hs : List ℕ} {n : ℕ} (I : Nameful w ts hs n) where
 
     -- It stands for each name whether it is entered.
     into-is : (c : ℕ) → In c (names (network-of n (arcs-of ts hs)))
-        → cell w' (2 * n) c ≡ one (entered (network-of n (arcs-of ts hs)) c)
+        → cell w' (2 * n) c ≡ yes-number (entered (network-of n (arcs-of ts hs)) c)
     into-is c m = (rw all-arcs at (M .into c (zone-low (names-zone (network-of n (arcs-of ts hs)) m .0))))
-        ∙ ap one (entered-is proper (cell w (5 * n)) (λ v i. I .named v (zone-low i)) m)
+        ∙ ap yes-number (entered-is proper (cell w (5 * n)) (λ v i. I .named v (zone-low i)) m)
 
     -- It stands for each name whether it is left.
     left-out-is : (c : ℕ) → In c (names (network-of n (arcs-of ts hs)))
-        → cell w' (3 * n) c ≡ one (left (network-of n (arcs-of ts hs)) c)
+        → cell w' (3 * n) c ≡ yes-number (left (network-of n (arcs-of ts hs)) c)
     left-out-is c m = (rw all-arcs at (M .left c (zone-low (names-zone (network-of n (arcs-of ts hs)) m .0))))
-        ∙ ap one (left-is proper (cell w (5 * n)) (λ v i. I .named v (zone-low i)) m)
+        ∙ ap yes-number (left-is proper (cell w (5 * n)) (λ v i. I .named v (zone-low i)) m)
 
     -- What was noted and counted are the kinds.
     pub kinds-are : (r : Counts) → r .sources ≡ length (keep (own-kind w' n 0 1) (run 0 n))

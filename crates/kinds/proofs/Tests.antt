@@ -2,7 +2,7 @@
 --   raised-one    what `any` says of a list and one element more, as 1 or 0
 --   keep-keep     what passes two tests, one after the other, passes both
 --   keep-run      how many of the numbers from a on pass a test, the first taken apart
---   one-zero, one-one   a test's 1 or 0, compared;   both-ways   two tests, either way round
+--   yes-zero, yes-one   a test's 1 or 0, compared;   both-ways   two tests, either way round
 -- Assumes nothing.
 use mathlib.Core.Path.{_≡_, refl, sym, ap, _∙_}
 use mathlib.Core.Logic.{inl, inr, _≢_}
@@ -15,7 +15,7 @@ use lib.Dec.{eqb}
 use lib.ListN.{length}
 use borrow.Author.Tests.{eq-eqb, ne-eqb}
 use Rattle.rules.specs.Lists.{any, keep, run}
-use Rattle.rows.specs.Marks.{one}
+use Rattle.rules.specs.Answers.{yes-number}
 use Rattle.theory.proofs.Ground.Bools.{bool-cases}
 use Rattle.theory.proofs.Ground.Lists.{any-hit, any-miss, keep-hit, keep-miss}
 use Rattle.theory.proofs.Ground.Counting.{keep-length}
@@ -30,10 +30,10 @@ raised-true false = refl
 
 -- What `any` says of a list, raised by one element more, is what it says of both.
 pub raised-one : {A : Type 0} (p : A → Bool) (xs : List A) (x : A)
-    → raised (p x) (one (any p xs)) ≡ one (any p (xs ++ (x ∷ [])))
+    → raised (p x) (yes-number (any p xs)) ≡ yes-number (any p (xs ++ (x ∷ [])))
 raised-one p [] x = go (p x) refl
   where
-    go : (b : Bool) → p x ≡ b → raised (p x) 0 ≡ one (any p (x ∷ []))
+    go : (b : Bool) → p x ≡ b → raised (p x) 0 ≡ yes-number (any p (x ∷ []))
     go true e = rw (any-hit p [] e, e)
     go false e = rw (any-miss p [] e, e)
 raised-one p (y ∷ ys) x = elim (bool-cases (p y)) [
@@ -60,7 +60,7 @@ keep-keep p q (x ∷ xs) = elim (bool-cases (p x)) [
 
 -- How many of k + 1 numbers from z on pass a test: the first, and those behind it.
 keep-first : (p : ℕ → Bool) (z k : ℕ)
-    → length (keep p (run z (suc k))) ≡ one (p z) + length (keep p (run (suc z) k))
+    → length (keep p (run z (suc k))) ≡ yes-number (p z) + length (keep p (run (suc z) k))
 keep-first p z k = elim (bool-cases (p z)) [
   | inl e ↦ rw (keep-hit p (run (suc z) k) e, e) (omega arith)
   | inr e ↦ rw (keep-miss p (run (suc z) k) e, e) (omega arith)
@@ -68,25 +68,20 @@ keep-first p z k = elim (bool-cases (p z)) [
 
 -- How many numbers from z up to n pass a test: the first, and those behind it.
 pub keep-run : (p : ℕ → Bool) (z n : ℕ) → z < n
-    → length (keep p (run z (n - z))) ≡ one (p z) + length (keep p (run (z + 1) (n - (z + 1))))
+    → length (keep p (run z (n - z))) ≡ yes-number (p z) + length (keep p (run (z + 1) (n - (z + 1))))
 keep-run p z n l =
     let e : n - z ≡ suc (n - suc z) = omega arith in
     rw (add-one z, e) (keep-first p z (n - suc z))
 
--- A test's 1 or 0 is at most 1.
-pub one-few : (b : Bool) → one b ≤ 1
-one-few true = omega arith
-one-few false = omega arith
-
 -- A test's 1 or 0 is 0 where the test says no.
-pub one-zero : (b : Bool) → eqb (one b) 0 ≡ not b
-one-zero true = refl
-one-zero false = refl
+pub yes-zero : (b : Bool) → eqb (yes-number b) 0 ≡ not b
+yes-zero true = refl
+yes-zero false = refl
 
 -- A test's 1 or 0 is 1 where the test says yes.
-pub one-one : (b : Bool) → eqb (one b) 1 ≡ b
-one-one true = refl
-one-one false = refl
+pub yes-one : (b : Bool) → eqb (yes-number b) 1 ≡ b
+yes-one true = refl
+yes-one false = refl
 
 -- One test after the other, either way round.
 pub both-ways : (a b : Bool) → (not a && b) ≡ (b && not a)
@@ -102,18 +97,18 @@ keep-few p z n = rw (run-length z n) at (keep-length p (run z n))
 -- the three tests of `own-kind`
 module _ (w : List ℕ) (n x y z : ℕ) where
   -- The zone is no name.
-  pub own-name-no : cell w (5 * n) z ≢ z → 0 ≡ one (own-kind w n x y z)
+  pub own-name-no : cell w (5 * n) z ≢ z → 0 ≡ yes-number (own-kind w n x y z)
   own-name-no a = rw (ne-eqb (cell w (5 * n) z) z a)
 
   -- Another number stands in the region of what is entered.
-  pub own-into-no : cell w (5 * n) z ≡ z → cell w (2 * n) z ≢ x → 0 ≡ one (own-kind w n x y z)
+  pub own-into-no : cell w (5 * n) z ≡ z → cell w (2 * n) z ≢ x → 0 ≡ yes-number (own-kind w n x y z)
   own-into-no a b = rw (eq-eqb (cell w (5 * n) z) z a, ne-eqb (cell w (2 * n) z) x b)
 
   -- Another number stands in the region of what is left.
-  pub own-left-no : cell w (5 * n) z ≡ z → cell w (2 * n) z ≡ x → cell w (3 * n) z ≢ y → 0 ≡ one (own-kind w n x y z)
+  pub own-left-no : cell w (5 * n) z ≡ z → cell w (2 * n) z ≡ x → cell w (3 * n) z ≢ y → 0 ≡ yes-number (own-kind w n x y z)
   own-left-no a b c =
       rw (eq-eqb (cell w (5 * n) z) z a, eq-eqb (cell w (2 * n) z) x b, ne-eqb (cell w (3 * n) z) y c)
 
   -- The zone is a name of the kind.
-  pub own-yes : cell w (5 * n) z ≡ z → cell w (2 * n) z ≡ x → cell w (3 * n) z ≡ y → 1 ≡ one (own-kind w n x y z)
+  pub own-yes : cell w (5 * n) z ≡ z → cell w (2 * n) z ≡ x → cell w (3 * n) z ≡ y → 1 ≡ yes-number (own-kind w n x y z)
   own-yes a b c = rw (eq-eqb (cell w (5 * n) z) z a, eq-eqb (cell w (2 * n) z) x b, eq-eqb (cell w (3 * n) z) y c)

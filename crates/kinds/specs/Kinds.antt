@@ -16,7 +16,7 @@ use Rattle.rules.specs.Lists.{any}
 use Rattle.rules.specs.Network.{Arc, Network, network-of}
 use Rattle.rules.specs.Components.{name, names, entered, left, sources, sinks, alone}
 use Rattle.rules.specs.Calls.{arcs-of}
-use Rattle.rows.specs.Marks.{one}
+use Rattle.rules.specs.Answers.{yes-number}
 use Rattle.rows.specs.Arranged.{Between}
 use Rattle.order.specs.Memory.{cell}
 use Rattle.components.specs.Components.{names-at}
@@ -70,8 +70,8 @@ pub record Noted (w w' : List ℕ) (n tail head : ℕ) : Type 0 where
 -- the first i arcs are noted
 pub record Marking (w w' : List ℕ) (n : ℕ) (es : List Arc) (i : ℕ) : Type 0 where
   pub around : Around w w' n
-  pub into : (c : ℕ) → c < n → cell w' (into-at n) c ≡ one (any (comes (cell w (names-at n)) c) (take i es))
-  pub left : (c : ℕ) → c < n → cell w' (left-at n) c ≡ one (any (goes (cell w (names-at n)) c) (take i es))
+  pub into : (c : ℕ) → c < n → cell w' (into-at n) c ≡ yes-number (any (comes (cell w (names-at n)) c) (take i es))
+  pub left : (c : ℕ) → c < n → cell w' (left-at n) c ≡ yes-number (any (goes (cell w (names-at n)) c) (take i es))
 
 -- the arcs of ts and hs are between zones, the memory has room, and the two regions are clear
 pub record Markable (w ts hs : List ℕ) (n : ℕ) : Type 0 where
@@ -100,8 +100,8 @@ pub record Nameful (w ts hs : List ℕ) (n : ℕ) : Type 0 where
 -- are those of the sources, the sinks and the components alone; only the two regions differ
 pub record Kinds (w w' : List ℕ) (n : ℕ) (N : Network) (r : Counts) : Type 0 where
   pub around : Around w w' n
-  pub into : (c : ℕ) → In c (names N) → cell w' (into-at n) c ≡ one (entered N c)
-  pub left-out : (c : ℕ) → In c (names N) → cell w' (left-at n) c ≡ one (left N c)
+  pub into : (c : ℕ) → In c (names N) → cell w' (into-at n) c ≡ yes-number (entered N c)
+  pub left-out : (c : ℕ) → In c (names N) → cell w' (left-at n) c ≡ yes-number (left N c)
   pub sources-are : r .sources ≡ length (sources N)
   pub sinks-are : r .sinks ≡ length (sinks N)
   pub alone-are : r .alone ≡ length (alone N)

@@ -8,7 +8,7 @@ ghost use lib.ListN.{length};
 ghost use Rattle.rules.specs.Lists.{run, keep};
 ghost use Rattle.rules.specs.Network.{network-of};
 ghost use Rattle.rules.specs.Calls.{arcs-of};
-ghost use Rattle.rows.specs.Marks.{one};
+ghost use Rattle.rules.specs.Answers.{yes-number};
 ghost use Rattle.kinds.specs.Kinds.{Room, Noted, Markable, Marking, own-kind, Nameful, Kinds};
 
 // How many components are sources, sinks and alone.
@@ -50,7 +50,7 @@ fn mark(tails: &[u16], heads: &[u16], work: &mut [u16], zones: usize)
 // 1 where z is a name with x in the region of what is entered and y in the region of what is left, else 0.
 pub fn kind(work: &[u16], zones: usize, z: usize, x: u16, y: u16) -> usize
     requires { ⌜ Room (now work) zones × (z < zones) ⌝ }
-    ensures { λ r. ⌜ r ≡ one (own-kind (now (work .entry)) zones x y z) ⌝ }
+    ensures { λ r. ⌜ r ≡ yes-number (own-kind (now (work .entry)) zones x y z) ⌝ }
 {
     let n = rows::wide(work[5 * zones + z]);
     if n != z {

@@ -11,13 +11,12 @@ use lib.ListN.{length, take, drop, length-append, length-map}
 use lib.Seq.{take-at}
 use Rattle.rules.specs.declared.PlanAnswer.{PlanAnswer}
 use Rattle.rules.specs.Lists.{over}
-use Rattle.rules.specs.Answers.{done}
 use Rattle.rules.specs.Network.{Network}
 use Rattle.rules.specs.Components.{sources, sinks, alone}
 use Rattle.rules.specs.File.{Given}
 use Rattle.rules.specs.Plan.{Link, why-number, plan, plan-pairs, plan-need}
-use Rattle.rules.specs.Calls.{arcs-of, handed, network-tests, plan-trouble, plan-says}
-use Rattle.rules.specs.Calls.{plan-leaves-from, plan-leaves-to, plan-leaves-why}
+use Rattle.rules.specs.Calls.{arcs-of, handed, network-tests, plan-trouble}
+use Rattle.theory.proofs.Ground.ArcLists.{arcs-length}
 use Rattle.theory.proofs.Files.AnswerLaws.{done-not-refused, done-once}
 use Rattle.theory.proofs.Planning.PlanCount.{plan-length}
 use Rattle.tests.specs.Tested.{Fine}
@@ -25,6 +24,7 @@ use Rattle.tests.proofs.Troubles.{both-pass}
 use Rattle.tests.proofs.Fine.{fine, fine-proper}
 use Rattle.plan.specs.Promise.{Plan-promise}
 use Rattle.plan.proofs.Few.{need-few}
+use Rattle.plan.proofs.Corollaries.{told, from-is, to-is, why-is}
 use Rattle.text.specs.Put.{put, Written}
 use Rattle.text.specs.Lines.{lines-of, plan-text}
 use Rattle.text.proofs.Texts.{plan-put}
@@ -51,17 +51,6 @@ ends-of ls = map (λ (l : Link). l .end) ls
 abbrev whys-of : List Link → List ℕ
 whys-of ls = map (λ (l : Link). why-number (l .why)) ls
 
--- the values that DONE carries for a network
-abbrev values : Network → List ℕ
-values N = length (sources N) ∷ length (sinks N) ∷ length (alone N) ∷ plan-pairs N ∷ plan-need N ∷ []
-
--- as many arcs are handed in as there are tails
-arcs-count : (ts hs : List ℕ) → length ts ≡ length hs → length (arcs-of ts hs) ≡ length ts
-unfolding arcs-of zipWith
-arcs-count [] hs e = refl
-arcs-count (t ∷ ts) [] e = omega arith
-arcs-count (t ∷ ts) (h ∷ hs) e = ap suc (arcs-count ts hs (omega arith))
-
 -- a list with a column of k links over what was there has k elements or more
 column-fits : (f : Link → ℕ) (ls : List Link) (old : List ℕ) {xs : List ℕ} {k : ℕ} → xs ≡ over (map f ls) old
     → length ls ≡ k → k ≤ length xs
@@ -77,26 +66,6 @@ module _ (n : ℕ) (ts hs work starts ends whys : List ℕ) (e : plan-trouble n 
   network-fine : Fine n ts hs
   unfolding plan-trouble
   network-fine = fine n ts hs (both-pass (network-tests n ts hs) _ e .0)
-
-  -- PLAN says DONE and the values
-  says-done : plan-says n ts hs work starts ends whys ≡ done (values N)
-  unfolding plan-says
-  says-done = rw (e, plan-says)
-
-  -- PLAN leaves the starts of the links
-  leaves-starts : plan-leaves-from n ts hs work starts ends whys ≡ over (starts-of (plan N)) starts
-  unfolding plan-leaves-from
-  leaves-starts = rw (e, plan-leaves-from)
-
-  -- their ends
-  leaves-ends : plan-leaves-to n ts hs work starts ends whys ≡ over (ends-of (plan N)) ends
-  unfolding plan-leaves-to
-  leaves-ends = rw (e, plan-leaves-to)
-
-  -- and the numbers of their whys
-  leaves-whys : plan-leaves-why n ts hs work starts ends whys ≡ over (whys-of (plan N)) whys
-  unfolding plan-leaves-why
-  leaves-whys = rw (e, plan-leaves-why)
 
   -- the plan has as many links as the answer says
   links-are : length (plan N) ≡ plan-need N
@@ -116,7 +85,7 @@ module _ (n : ℕ) (ts hs work starts ends whys : List ℕ) (e : plan-trouble n 
   unfolding handed
   lines-are =
       let g : Given = record { zones = n; arcs = arcs-of ts hs } in
-      rw (sym (arcs-count ts hs (network-fine .paired)))
+      rw (sym (arcs-length ts hs (network-fine .paired)))
       (ap
       (λ (k : ℕ).
       plan-text n (length (arcs-of ts hs)) (length (sources N)) (length (sinks N)) (length (alone N)) (plan-pairs N)
@@ -129,18 +98,19 @@ module _ (n : ℕ) (ts hs work starts ends whys : List ℕ) (e : plan-trouble n 
   pub planned : (a : PlanAnswer) {w' f' t' y' : List ℕ} (out : List ℕ) → 20000 ≤ length out
       → Plan-promise n ts hs work starts ends whys a w' f' t' y'
       → Putable a f' t' y' out × (answer-lines n (length ts) a f' t' y' ≡ handed-lines n ts hs)
-  planned (PlanAnswer.Refused t) out l k = absurd (done-not-refused 5 _ t (sym (k .says ∙ says-done)))
+  planned (PlanAnswer.Refused t) out l k =
+      absurd (done-not-refused 5 _ t (sym (told n ts hs work starts ends whys e _ _ _ _ _ k)))
   planned (PlanAnswer.Done s t q p need) out l k =
-      let v : s ∷ t ∷ q ∷ p ∷ need ∷ [] ≡ values N = done-once (k .says ∙ says-done) in
+      let v = done-once (told n ts hs work starts ends whys e _ _ _ _ _ k) in
       let s-is : s ≡ length (sources N) = cc in
       let t-is : t ≡ length (sinks N) = cc in
       let q-is : q ≡ length (alone N) = cc in
       let p-is : p ≡ plan-pairs N = cc in
       let need-is : need ≡ plan-need N = cc in
       let count : length (plan N) ≡ need = links-are ∙ sym need-is in
-      let starts-are = k .from-left ∙ leaves-starts in
-      let ends-are = k .to-left ∙ leaves-ends in
-      let whys-are = k .why-left ∙ leaves-whys in (
+      let starts-are = from-is n ts hs work starts ends whys e _ _ _ _ _ k in
+      let ends-are = to-is n ts hs work starts ends whys e _ _ _ _ _ k in
+      let whys-are = why-is n ts hs work starts ends whys e _ _ _ _ _ k in (
         record {
           starts-fit = column-fits (λ (l : Link). l .start) (plan N) starts starts-are count;
           ends-fit = column-fits (λ (l : Link). l .end) (plan N) ends ends-are count;

@@ -3,36 +3,18 @@
 ghost use mathlib.Core.Path.{_≡_};
 ghost use Prim.Native.Nat.{_≤_};
 ghost use lib.ListN.{length, take};
-ghost use Rattle.rules.specs.Answers.{kind-number, trouble-refusal};
+ghost use Rattle.rules.specs.Answers.{trouble-refusal};
 ghost use Rattle.rules.specs.Text.{refusal-line, printed};
 ghost use Rattle.text.specs.Put.{Written};
 ghost use Rattle.io.specs.Counts.{Counts};
 ghost use Rattle.linkplan.specs.Buffers.{Lent, Putable, answer-lines, Plannable, handed-lines};
 use netfile::read;
-use rules::Kind;
 use rules::PlanAnswer;
 use rules::ReadAnswer;
 use rules::Trouble;
+use rules::kind_number;
 use text::put_plan;
 use text::put_refusal;
-
-// The number of a kind of refusal.
-fn number_of(kind: Kind) -> usize
-    ensures { λ r. ⌜ r ≡ kind-number kind ⌝ }
-{
-    match kind {
-        Kind::Short => 1,
-        Kind::Long => 2,
-        Kind::Loose => 3,
-        Kind::Zones => 4,
-        Kind::Arcs => 5,
-        Kind::Range => 6,
-        Kind::SelfArc => 7,
-        Kind::Extra => 8,
-        Kind::Room => 9,
-        Kind::Pair => 10,
-    }
-}
 
 // Puts the line of a refusal, and answers its length.
 fn refuse(t: Trouble, out: &mut [u8]) -> usize
@@ -41,7 +23,7 @@ fn refuse(t: Trouble, out: &mut [u8]) -> usize
 {
     let kind = t.kind;
     let place = t.place;
-    put_refusal(out, 0, number_of(kind), place)
+    put_refusal(out, 0, kind_number(kind), place)
 }
 
 // Puts what is printed for an answer of PLAN over the lists that it left, and answers the length of it.

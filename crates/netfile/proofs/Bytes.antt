@@ -1,5 +1,4 @@
 -- The bytes of a network, and lists of bytes with others put into them.
---   number-one, number-two, number-three   the bytes of a number by how many groups it has
 --   number-long, number-short   a number has at least one byte, and at most three
 --   sets-append           bytes put in, and others after them;   sets-whole   bytes put in at the start
 --   rest-bytes i ts hs    the bytes of the arcs from index i on, with rest-cons, rest-turn and rest-none
@@ -19,22 +18,6 @@ use Rattle.rules.specs.Lists.{over}
 use Rattle.rules.specs.Number.{number-bytes}
 use Rattle.rules.specs.File.{arc-bytes, arcs-bytes}
 use Rattle.rules.specs.Calls.{arcs-of}
-
--- The bytes of a number of one group.
-pub number-one : (n : ℕ) → n < 128 → number-bytes n ≡ n ∷ []
-unfolding number-bytes
-number-one n h = rw (lt-ltb n 128 h)
-
--- The bytes of a number of two groups.
-pub number-two : (n : ℕ) → 128 ≤ n → n < 16384 → number-bytes n ≡ (128 + n % 128) ∷ (n / 128) ∷ []
-unfolding number-bytes
-number-two n l h = rw (le-ltb n 128 l, lt-ltb n 16384 h)
-
--- The bytes of a number of three groups.
-pub number-three : (n : ℕ) → 16384 ≤ n
-    → number-bytes n ≡ (128 + n % 128) ∷ (128 + n / 128 % 128) ∷ (n / 16384) ∷ []
-unfolding number-bytes
-number-three n l = rw (le-ltb n 128 (omega arith), le-ltb n 16384 l)
 
 -- A property of a length that holds of one, two and three holds of the length of a number.
 number-sizes : (P : ℕ → Type 0) → P 1 → P 2 → P 3 → (n : ℕ) → P (length (number-bytes n))

@@ -21,6 +21,7 @@ use Rattle.rules.specs.Calls.{first-trouble, network-tests, room-test, arcs-of,
 use Rattle.rules.specs.Calls.{write-leaves-file}
 use Rattle.rules.specs.declared.Trouble.{Trouble}
 use Rattle.rules.specs.declared.WriteAnswer.{WriteAnswer}
+use Rattle.theory.proofs.Ground.ArcLists.{arcs-length}
 use Rattle.tests.proofs.Troubles.{first-trouble-after, first-trouble-stays}
 use Rattle.netfile.specs.Promises.{Write-promise}
 use Rattle.netfile.proofs.Bytes.{number-short, sets-append, sets-whole}
@@ -35,19 +36,12 @@ arcs-short (e ∷ es) =
     let r = arcs-short es in
     simp length-append (omega arith)
 
--- There are as many arcs as tails, where tails and heads pair up.
-pub arcs-of-length : (ts hs : List ℕ) → length ts ≡ length hs → length (arcs-of ts hs) ≡ length ts
-unfolding arcs-of zipWith
-arcs-of-length [] hs e = refl
-arcs-of-length (t ∷ ts) [] e = omega arith
-arcs-of-length (t ∷ ts) (h ∷ hs) e = ap suc (arcs-of-length ts hs (omega arith))
-
 module _ (n : ℕ) (ts hs : List ℕ) (e : length ts ≡ length hs) where
   -- A network is written as its two counts and its arcs.
   written-parts : written n ts hs
       ≡ number-bytes n ++ (number-bytes (length ts) ++ arcs-bytes (arcs-of ts hs))
   unfolding written file-bytes
-  written-parts = rw (arcs-of-length ts hs e)
+  written-parts = rw (arcs-length ts hs e)
 
   -- The length of the file.
   pub written-length : length (written n ts hs)

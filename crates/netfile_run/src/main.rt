@@ -2,7 +2,6 @@
 // that are exact and one short, and the largest network. A line is the label, the number, the place and the values, and
 // after a `|` what each lent list holds.
 mod reads;
-mod show;
 mod writes;
 
 fn main() {

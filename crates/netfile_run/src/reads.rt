@@ -1,5 +1,4 @@
 // The runs of `read`.
-use super::show;
 use rules::ReadAnswer;
 
 // What reading answers: number, place, zones and arcs.

@@ -1,7 +1,6 @@
 // The runs of `write`.
 ghost use Prim.Native.Nat.{_≤_};
 use super::reads;
-use super::show;
 use rules::WriteAnswer;
 
 // What writing answers: number, place and length.

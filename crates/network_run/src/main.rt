@@ -5,64 +5,28 @@ ghost use mathlib.Core.Path.{_≡_};
 ghost use lib.ListN.{length};
 use network::reach;
 use network::strong;
-use rules::Kind;
 use rules::ReachAnswer;
 use rules::StrongAnswer;
 use rules::Trouble;
-
-// The number of a kind of refusal.
-fn kind_number(kind: Kind) -> u64 {
-    match kind {
-        Kind::Short => 1,
-        Kind::Long => 2,
-        Kind::Loose => 3,
-        Kind::Zones => 4,
-        Kind::Arcs => 5,
-        Kind::Range => 6,
-        Kind::SelfArc => 7,
-        Kind::Extra => 8,
-        Kind::Room => 9,
-        Kind::Pair => 10,
-    }
-}
-
-// A space and a number.
-fn show(n: u64) {
-    io::write_all(1, b" ");
-    io::print_decimal(1, n);
-}
+use show::number;
+use show::others;
+use show::trouble;
 
 // What a refusal says: its number, its place, and no value.
 fn show_trouble(t: Trouble) {
-    let kind = t.kind;
-    let place = t.place;
-    show(kind_number(kind));
-    show(place as u64);
-    show(0);
+    trouble(t);
+    number(0);
 }
 
 // What a yes or a no says.
 fn show_yes(yes: bool) {
-    show(0);
-    show(0);
+    number(0);
+    number(0);
     if yes {
-        show(1);
+        number(1);
     } else {
-        show(0);
+        number(0);
     }
-}
-
-// How many elements are not zero.
-fn left(work: &[u16]) -> u64 {
-    let mut n = 0;
-    let mut i = 0;
-    while i < work.len() {
-        if work[i] != 0 {
-            n += 1;
-        }
-        i += 1;
-    }
-    n
 }
 
 // Work memory, full of sevens.
@@ -84,7 +48,7 @@ fn ask_strong(label: &[u8], zones: usize, tails: &[u16], heads: &[u16], lent: us
         StrongAnswer::Done { yes } => show_yes(yes),
         StrongAnswer::Refused(t) => show_trouble(t),
     }
-    show(left(work));
+    number(others(work, 0));
     io::write_all(1, b"\n");
 }
 
@@ -108,7 +72,7 @@ fn ask_reach(
         ReachAnswer::Done { yes } => show_yes(yes),
         ReachAnswer::Refused(t) => show_trouble(t),
     }
-    show(left(work));
+    number(others(work, 0));
     io::write_all(1, b"\n");
 }
 

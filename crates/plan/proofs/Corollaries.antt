@@ -1,6 +1,7 @@
 -- What PLAN's promise means, from the theorems about the plan.
 --   plan-outcomes-equal   any two outcomes that the promise allows are equal
 --   values N              s, t, q, p and the number of links, as an answer carries them
+--   told; from-is, to-is, why-is   what an answer carries; what each lent list holds afterwards
 --   put-out m fs ts       the arcs of the first m elements of two lists: the links as the call puts them out
 --   put-out-plan          what the call puts out are the plan's links
 --   put-out-strong        with them the network is strong;  put-out-fewest   no smaller set of arcs makes it so
@@ -92,15 +93,15 @@ module _
     told = rw fine at (P .says)
 
     -- the links' starts, ends and whys are put over what was lent
-    from-is : from' ≡ over (map (λ (l : Link). l .start) (plan N)) from
+    pub from-is : from' ≡ over (map (λ (l : Link). l .start) (plan N)) from
     unfolding plan-leaves-from
     from-is = rw fine at (P .from-left)
 
-    to-is : to' ≡ over (map (λ (l : Link). l .end) (plan N)) to
+    pub to-is : to' ≡ over (map (λ (l : Link). l .end) (plan N)) to
     unfolding plan-leaves-to
     to-is = rw fine at (P .to-left)
 
-    why-is : why' ≡ over (map (λ (l : Link). why-number (l .why)) (plan N)) why
+    pub why-is : why' ≡ over (map (λ (l : Link). why-number (l .why)) (plan N)) why
     unfolding plan-leaves-why
     why-is = rw fine at (P .why-left)
 

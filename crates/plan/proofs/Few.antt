@@ -16,7 +16,7 @@ use Rattle.rules.specs.Lists.{run, keep}
 use Rattle.rules.specs.Network.{Arc, Network, network-of, Proper, strong}
 use Rattle.rules.specs.Components.{is-name, names, entered, left, sources, sinks, alone}
 use Rattle.rules.specs.Plan.{plan-need}
-use Rattle.rows.specs.Marks.{one}
+use Rattle.rules.specs.Answers.{yes-number}
 use Rattle.theory.proofs.Ground.Bools.{bool-cases}
 use Rattle.theory.proofs.Ground.Lists.{keep-hit, keep-miss}
 use Rattle.theory.proofs.Ground.Counting.{keep-length}
@@ -37,12 +37,12 @@ neither into out c = not (into c) && not (out c)
 
 -- what passes a test in a list: the first, where it passes, and those behind it
 keep-by : (p : ℕ → Bool) (x : ℕ) (xs : List ℕ) (b : Bool) → p x ≡ b →
-    length (keep p (x ∷ xs)) ≡ one b + length (keep p xs)
+    length (keep p (x ∷ xs)) ≡ yes-number b + length (keep p xs)
 keep-by p x xs true e = ap length (keep-hit p xs e) ∙ omega arith
 keep-by p x xs false e = ap length (keep-miss p xs e) ∙ omega arith
 
 -- of the three tests no two pass together
-one-three : (a b : Bool) → one (b && not a) + one (a && not b) + one (not a && not b) ≤ 1
+one-three : (a b : Bool) → yes-number (b && not a) + yes-number (a && not b) + yes-number (not a && not b) ≤ 1
 one-three true true = omega arith
 one-three true false = omega arith
 one-three false true = omega arith

@@ -22,8 +22,8 @@ use Rattle.rules.specs.Plan.{plan, plan-pairs, plan-need}
 use Rattle.rules.specs.Calls.{arcs-of, handed, asked-work}
 use Rattle.tests.proofs.Fine.{fine-proper}
 use Rattle.rows.specs.Regions.{Holds}
-use Rattle.rows.proofs.ArcRows.{arcs-length}
 use Rattle.search.proofs.Keeping.{drop-deeper}
+use Rattle.theory.proofs.Ground.ArcLists.{arcs-length}
 use Rattle.theory.proofs.Ground.Bools.{bool-cases}
 use Rattle.theory.proofs.Ground.Ascending.{in-run}
 use Rattle.theory.proofs.Reaching.Reach.{strong-sound}

@@ -16,7 +16,8 @@ use lib.Dec.{eqb, ltb}
 use lib.ListN.{length, getD, set}
 use lib.Seq.{getD-set-same, getD-set-other}
 use borrow.Author.Tests.{eqb-true, eqb-false, ltb-true, ltb-false, ne-eqb}
-use Rattle.rows.specs.Marks.{one, zeros}
+use Rattle.theory.proofs.Files.AnswerLaws.{yes-few}
+use Rattle.rows.specs.Marks.{zeros}
 
 -- two numbers are the same or not
 pub same? : (a b : ℕ) → (a ≡ b) ⊎ (a ≢ b)
@@ -66,11 +67,6 @@ zeros-mark w at (suc n) v x ne h fits e =
         let apart : at + n ≢ at + v = λ q. omega arith in
         rw (getD-set-other w (at + v) (at + n) x 0 apart) (omega arith)
 
--- one element counts at most once
-one-few : (b : Bool) → one b ≤ 1
-one-few true = omega arith
-one-few false = omega arith
-
 -- where every mark is clear
 pub zeros-clear : (w : List ℕ) (at n : ℕ) → ((v : ℕ) → v < n → getD w (at + v) 0 ≡ 0) → zeros w at n ≡ n
 unfolding zeros
@@ -88,7 +84,7 @@ zeros-none w at (suc n) h =
 pub zeros-few : (w : List ℕ) (at n : ℕ) → zeros w at n ≤ n
 unfolding zeros
 zeros-few w at zero = omega arith
-zeros-few w at (suc n) = omega (arith, zeros-few w at n, one-few (eqb (getD w (at + n) 0) 0))
+zeros-few w at (suc n) = omega (arith, zeros-few w at n, yes-few (eqb (getD w (at + n) 0) 0))
 
 -- where one is not clear, fewer are clear than there are
 pub zeros-some : (w : List ℕ) (at n v : ℕ) → v < n → (getD w (at + v) 0 ≡ 0 → ⊥) → zeros w at n < n
@@ -99,7 +95,7 @@ zeros-some w at (suc n) v h ne =
     (λ (q : v ≡ n).
     let last : getD w (at + n) 0 ≡ 0 → ⊥ = rw q at ne in
     rw (ne-eqb (getD w (at + n) 0) 0 last) (omega (arith, zeros-few w at n)))
-    (λ l. omega (arith, zeros-some w at n v l ne, one-few (eqb (getD w (at + n) 0) 0)))
+    (λ l. omega (arith, zeros-some w at n v l ne, yes-few (eqb (getD w (at + n) 0) 0)))
     (eq-or-lt-of-le {n = v} {m = n} (omega arith))
 
 -- equal marks, equal counts

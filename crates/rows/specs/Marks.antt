@@ -5,10 +5,10 @@
 --   zeros w at n             how many of the n elements from `at` on are 0
 use mathlib.Core.Path.{_≡_}
 use mathlib.Core.List.{List}
-use mathlib.Core.Bool.{Bool, true, false}
 use Prim.Native.Nat.{ℕ, zero, suc, _+_, _≤_, _<_}
 use lib.ListN.{length, getD}
 use lib.Dec.{eqb}
+use Rattle.rules.specs.Answers.{yes-number}
 use Rattle.rows.specs.declared.Found.{Found}
 use Rattle.rows.specs.declared.Found.the-variants.{At, Nothing}
 
@@ -31,12 +31,7 @@ First-in w a b marks (At i) =
     × ((k : ℕ) → a ≤ k → k < a + i → Marked w marks (getD w k 0)))
 First-in w a b marks Nothing = (k : ℕ) → a ≤ k → k < b → Marked w marks (getD w k 0)
 
--- 1 for true, 0 for false
-abbrev pub one : Bool → ℕ
-one true = 1
-one false = 0
-
 -- how many of the n elements from `at` on are 0
 unfoldable pub zeros : List ℕ → ℕ → ℕ → ℕ
 zeros w at zero = 0
-zeros w at (suc n) = zeros w at n + one (eqb (getD w (at + n) 0) 0)
+zeros w at (suc n) = zeros w at n + yes-number (eqb (getD w (at + n) 0) 0)

@@ -11,9 +11,9 @@ use Rattle.rules.specs.Lists.{run}
 use Rattle.rules.specs.Network.{Network}
 use Rattle.rules.specs.Skeleton.{in-skeleton, skeleton}
 use Rattle.rules.specs.Calls.{handed}
+use Rattle.theory.proofs.Ground.ArcLists.{arcs-length}
 use Rattle.theory.proofs.Skeletons.SkeletonLeast.{skeleton-short}
 use Rattle.theory.proofs.Skeletons.SkeletonRows.{rows-none, rows-next, rows-few, skeleton-rows}
-use Rattle.rows.proofs.ArcRows.{arcs-length}
 use Rattle.crossings.specs.Named.{Named}
 use Rattle.crossings.proofs.NamedLaws.{named-kept, named-proper}
 use Rattle.skeleton.specs.Putting.{Roomy, skeleton-row, skeleton-part, Zone-put, Rows-put}

@@ -2,72 +2,36 @@
 // largest sizes, and every refusal. A line has the label, the number, the place, the arc count, the arcs that were put,
 // and how many elements of the work memory are not zero then. Of long lists it has how many elements were put, and
 // their sum.
-use rules::Kind;
 use rules::SkeletonAnswer;
 use rules::Trouble;
+use show::number;
+use show::others;
+use show::trouble;
 use skeleton::skeleton;
 
 // What the lent lists hold before: no zone has this number.
 const UNUSED: u16 = 65535;
 
-// The number of a kind of refusal.
-fn kind_number(kind: Kind) -> u64 {
-    match kind {
-        Kind::Short => 1,
-        Kind::Long => 2,
-        Kind::Loose => 3,
-        Kind::Zones => 4,
-        Kind::Arcs => 5,
-        Kind::Range => 6,
-        Kind::SelfArc => 7,
-        Kind::Extra => 8,
-        Kind::Room => 9,
-        Kind::Pair => 10,
-    }
-}
-
-// A space and a number.
-fn show(n: u64) {
-    io::write_all(1, b" ");
-    io::print_decimal(1, n);
-}
-
 // What a refusal says: its number, its place, and no value.
 fn show_trouble(t: Trouble) {
-    let kind = t.kind;
-    let place = t.place;
-    show(kind_number(kind));
-    show(place as u64);
-    show(0);
+    trouble(t);
+    number(0);
 }
 
 // What the answer says.
 fn show_answer(answer: SkeletonAnswer) {
     match answer {
         SkeletonAnswer::Done { arcs } => {
-            show(0);
-            show(0);
-            show(arcs as u64);
+            number(0);
+            number(0);
+            number(arcs);
         }
         SkeletonAnswer::Refused(t) => show_trouble(t),
     }
 }
 
-// How many elements are not `x`.
-fn others(list: &[u16], x: u16) -> u64 {
-    let mut n = 0;
-    let mut i = 0;
-    while i < list.len() {
-        if list[i] != x {
-            n += 1;
-        }
-        i += 1;
-    }
-    n
-}
-
 // The sum of the elements that were put, up to 4,096 of them.
-fn sum(list: &[u16]) -> u64 {
+fn sum(list: &[u16]) -> usize {
     let mut total = 0;
     let mut i = 0;
     while i < list.len() {
@@ -77,7 +41,7 @@ fn sum(list: &[u16]) -> u64 {
         if list[i] == UNUSED {
             return total;
         }
-        total += list[i] as u64;
+        total += list[i] as usize;
         i += 1;
     }
     total
@@ -85,13 +49,13 @@ fn sum(list: &[u16]) -> u64 {
 
 // How many elements of a list were put, and their sum.
 fn show_sum(list: &[u16]) {
-    show(others(list, UNUSED));
-    show(sum(list));
+    number(others(list, UNUSED));
+    number(sum(list));
 }
 
 // One arc.
 fn show_arc(tail: u16, head: u16) {
-    show(tail as u64);
+    number(tail as usize);
     io::write_all(1, b"-");
     io::print_decimal(1, head as u64);
 }
@@ -138,7 +102,7 @@ fn ask(
     io::write_all(1, b";");
     show_lists(from, to);
     io::write_all(1, b";");
-    show(others(work, 0));
+    number(others(work, 0));
     io::write_all(1, b"\n");
 }
 

@@ -1,7 +1,8 @@
--- What the theory stands on: Bools, lists, counting, numbers that ascend.
+-- What the theory stands on: Bools, lists, counting, numbers that ascend, arcs handed in.
 pub mod Bools
 pub mod Lists
 pub mod Counting
 pub mod Ascending
 pub mod Few
+pub mod ArcLists
 pub mod Shuffled

@@ -7,7 +7,8 @@ use Prim.Native.Nat.{_+_, _-_, _≤_, _<_}
 use lib.ListN.{length}
 use Rattle.rules.specs.Lists.{keep, run}
 use Rattle.kinds.specs.Kinds.{own-kind}
-use Rattle.kinds.proofs.Tests.{keep-run, keep-few, one-few}
+use Rattle.theory.proofs.Files.AnswerLaws.{yes-few}
+use Rattle.kinds.proofs.Tests.{keep-run, keep-few}
 use Rattle.kinds.proofs.count.Statement.{statement}
 use Rattle.kinds.proofs.count.Tie as tie
 
@@ -43,7 +44,7 @@ add-r c =
       l .loop .inv .1,
       keep-few p 0 (a .zones),
       c .kind .ensures,
-      one-few (p (l .loop .z)),
+      yes-few (p (l .loop .z)),
       l .before .before .pre .small,
     )
 

@@ -4,8 +4,8 @@ use borrow.Author.Needs.{needs}
 use Rattle.linkplan.proofs.refuse.Statement.{statement}
 use Rattle.linkplan.proofs.refuse.Tie as tie
 
-number-of-requires : tie.Need-number-of-requires
-number-of-requires c κs = search needs
+kind-number-requires : tie.Need-kind-number-requires
+kind-number-requires c κs = search needs
 
 put-refusal-requires : tie.Need-put-refusal-requires
 put-refusal-requires c κs = search needs
@@ -16,7 +16,7 @@ same-length c = search needs
 returns : tie.Need-returns
 returns c =
     let d = c .before .before in
-    rw (d .before .number-of .ensures) at (d .put-refusal .ensures)
+    rw (d .before .kind-number .ensures) at (d .put-refusal .ensures)
 
 pub refuse-spec : {M : Type 1} → statement M
-refuse-spec = tie.close (tie.spec number-of-requires put-refusal-requires same-length returns)
+refuse-spec = tie.close (tie.spec kind-number-requires put-refusal-requires same-length returns)

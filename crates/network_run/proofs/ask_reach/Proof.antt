@@ -39,11 +39,11 @@ enum-known-answer-2 c = search needs
 show-trouble-requires : tie.Need-show-trouble-requires
 show-trouble-requires c κs = search needs
 
-left-requires : tie.Need-left-requires
-left-requires c κs = search needs
+others-requires : tie.Need-others-requires
+others-requires c κs = search needs
 
-show-requires : tie.Need-show-requires
-show-requires c κs = search needs
+number-requires : tie.Need-number-requires
+number-requires c κs = search needs
 
 slice-aggregate-write-all : tie.Need-slice-aggregate-write-all
 slice-aggregate-write-all c = search needs
@@ -68,8 +68,8 @@ ask-reach-spec =
     show-yes-requires
     enum-known-answer-2
     show-trouble-requires
-    left-requires
-    show-requires
+    others-requires
+    number-requires
     slice-aggregate-write-all
     write-all-requires-2
     returns)

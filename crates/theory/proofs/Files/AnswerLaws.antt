@@ -1,5 +1,6 @@
 -- An answer says what it is: two answers of a call that say the same are the same.
 --   kind-once          the number of a kind names it
+--   yes-once, yes-few  so does the number of a yes or a no, which is at most 1
 --   done-once, refused-once, done-not-refused      the shared part, over what an answer says
 --   read-told-once ..  each call's answers, case by case
 -- The kinds in the order of their numbers undo `kind-number`; no kind has number 0, so DONE is told from a refusal.
@@ -54,6 +55,11 @@ yes-once true true e = refl
 yes-once true false e = absurd (omega arith)
 yes-once false true e = absurd (omega arith)
 yes-once false false e = refl
+
+-- which is at most 1
+pub yes-few : (b : Bool) → yes-number b ≤ 1
+yes-few true = omega arith
+yes-few false = omega arith
 
 -- a refusal names its trouble
 pub trouble-once : (t u : Trouble) → trouble-refusal t ≡ trouble-refusal u → t ≡ u

@@ -150,17 +150,26 @@ pub bytes-one : (n : ℕ) → n < 128 → number-bytes n ≡ n ∷ []
 unfolding number-bytes
 bytes-one n h = rw (lt-ltb n 128 h)
 
+-- a number from 128 to 16,383, by its two groups
+pub number-two : (n : ℕ) → 128 ≤ n → n < 16384 → number-bytes n ≡ (128 + n % 128) ∷ (n / 128) ∷ []
+unfolding number-bytes
+number-two n l h = rw (le-ltb n 128 l, lt-ltb n 16384 h)
+
+-- a number above 16,383, by its three groups
+pub number-three : (n : ℕ) → 16384 ≤ n
+    → number-bytes n ≡ (128 + n % 128) ∷ (128 + n / 128 % 128) ∷ (n / 16384) ∷ []
+unfolding number-bytes
+number-three n l = rw (le-ltb n 128 (omega arith), le-ltb n 16384 l)
+
 -- a number from 128 to 16,383 is two bytes
 pub bytes-two : (a b : ℕ) → a < 128 → 0 < b → b < 128 → number-bytes (a + 128 * b) ≡ (128 + a) ∷ b ∷ []
-unfolding number-bytes
 bytes-two a b h z g =
     let n = a + 128 * b in
-    rw (le-ltb n 128 (omega arith), lt-ltb n 16384 (omega arith), low-group a b h, high-group a b h)
+    rw (low-group a b h, high-group a b h) at (number-two n (omega arith) (omega arith))
 
 -- a number from 16,384 to 2,097,151 is three bytes
 pub bytes-three : (a b c : ℕ) → a < 128 → b < 128 → 0 < c → c < 128
     → number-bytes (a + 128 * b + 16384 * c) ≡ (128 + a) ∷ (128 + b) ∷ c ∷ []
-unfolding number-bytes
 bytes-three a b c h g z k =
     let n = a + 128 * b + 16384 * c in
     let e : n ≡ a + 128 * (b + 128 * c) = omega arith in
@@ -168,7 +177,7 @@ bytes-three a b c h g z k =
     let x : n % 128 ≡ a = ap (λ (q : ℕ). q % 128) e ∙ low-group a (b + 128 * c) h in
     let y : n / 128 % 128 ≡ b = ap (λ (q : ℕ). q % 128) mid ∙ low-group b c g in
     let w : n / 16384 ≡ c = sym (div-div-eq-div-mul n 128 128) ∙ ap (λ (q : ℕ). q / 128) mid ∙ high-group b c g in
-    rw (le-ltb n 128 (omega arith), le-ltb n 16384 (omega arith), x, y, w)
+    rw (x, y, w) at (number-three n (omega arith))
 
 module _ (s : List ℕ) (at : ℕ) where
   -- the groups of a number, as bytes, are the bytes that it is written as
@@ -250,13 +259,11 @@ length-one n h = rw (bytes-one n h)
 
 -- a number from 128 to 16,383 has two bytes
 pub length-two : (n : ℕ) → 128 ≤ n → n < 16384 → length (number-bytes n) ≡ 2
-unfolding number-bytes
-length-two n h g = rw (le-ltb n 128 h, lt-ltb n 16384 g)
+length-two n h g = rw (number-two n h g)
 
 -- a number above 16,383 has three bytes
 pub length-three : (n : ℕ) → 16384 ≤ n → length (number-bytes n) ≡ 3
-unfolding number-bytes
-length-three n h = rw (le-ltb n 128 (omega arith), le-ltb n 16384 h)
+length-three n h = rw (number-three n h)
 
 -- a number below 16,384 has one byte or two
 pub length-short : (n : ℕ) → n < 16384 → (1 ≤ length (number-bytes n)) × (length (number-bytes n) ≤ 2)

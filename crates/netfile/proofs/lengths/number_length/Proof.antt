@@ -2,12 +2,12 @@
 use native.Mathlib.Omega.{arith}
 use mathlib.Core.Path.{sym, ap}
 use lib.ListN.{length}
-use Rattle.netfile.proofs.Bytes.{number-one, number-two, number-three}
+use Rattle.theory.proofs.Files.NumberLaws.{bytes-one, number-two, number-three}
 use Rattle.netfile.proofs.lengths.number_length.Statement.{statement}
 use Rattle.netfile.proofs.lengths.number_length.Tie as tie
 
 returns : tie.Need-returns
-returns c = sym (ap length (number-one (c .before .args .n) (omega arith)))
+returns c = sym (ap length (bytes-one (c .before .args .n) (omega arith)))
 
 returns-2 : tie.Need-returns-2
 returns-2 c = sym (ap length (number-two (c .before .before .args .n) (omega arith) (omega arith)))

@@ -7,7 +7,8 @@ use mathlib.Core.Path.{_≡_}
 use mathlib.Core.Path.{ap}
 use lib.ListN.{length, length-set}
 use borrow.Author.Needs.{needs}
-use Rattle.netfile.proofs.Bytes.{number-one, number-two, number-three, number-long}
+use Rattle.theory.proofs.Files.NumberLaws.{bytes-one, number-two, number-three}
+use Rattle.netfile.proofs.Bytes.{number-long}
 use Rattle.netfile.proofs.putting.put_number.Statement.{statement}
 use Rattle.netfile.proofs.putting.put_number.Tie as tie
 
@@ -15,7 +16,7 @@ cast-file : tie.Need-cast-file
 cast-file c = search needs
 
 slice-write-file : tie.Need-slice-write-file
-slice-write-file c = omega (arith, ap length (number-one (c .before .args .n) (omega arith)))
+slice-write-file c = omega (arith, ap length (bytes-one (c .before .args .n) (omega arith)))
 
 add-result : tie.Need-add-result
 add-result c = search needs
@@ -25,7 +26,7 @@ same-length c = search needs
 
 returns : tie.Need-returns
 returns c =
-    let e = number-one (c .before .args .n) (omega arith) in
+    let e = bytes-one (c .before .args .n) (omega arith) in
     (rw e, rw e)
 
 add-file : tie.Need-add-file

@@ -4,8 +4,9 @@ use native.Mathlib.Omega.{arith}
 use mathlib.Core.Path.{sym, ap, _∙_}
 use lib.ListN.{length}
 use borrow.Author.Needs.{needs}
+use Rattle.theory.proofs.Ground.ArcLists.{arcs-length}
 use Rattle.netfile.proofs.Writes.{write-bad, write-done}
-use Rattle.netfile.proofs.Writes.{arcs-short, arcs-of-length, written-length}
+use Rattle.netfile.proofs.Writes.{arcs-short, written-length}
 use Rattle.netfile.proofs.Writes.{trouble-stays, trouble-room, trouble-none}
 use Rattle.netfile.proofs.Bytes.{number-short}
 use Rattle.tests.proofs.Fine.{fine}
@@ -60,7 +61,7 @@ add-length c =
       number-short (a .zones),
       number-short (length (a .tails .now)),
       arcs-short (arcs-of (a .tails .now) (a .heads .now)),
-      arcs-of-length (a .tails .now) (a .heads .now) (f .paired),
+      arcs-length (a .tails .now) (a .heads .now) (f .paired),
     )
 
 returns-2 : tie.Need-returns-2

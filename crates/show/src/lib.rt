@@ -1,22 +1,6 @@
-// What the program prints of an answer and of a list.
-use rules::Kind;
+// What the programs that run the calls print: numbers, refusals and lists, on standard output.
 use rules::Trouble;
-
-// The number of a kind of refusal.
-fn kind_number(kind: Kind) -> u64 {
-    match kind {
-        Kind::Short => 1,
-        Kind::Long => 2,
-        Kind::Loose => 3,
-        Kind::Zones => 4,
-        Kind::Arcs => 5,
-        Kind::Range => 6,
-        Kind::SelfArc => 7,
-        Kind::Extra => 8,
-        Kind::Room => 9,
-        Kind::Pair => 10,
-    }
-}
+use rules::kind_number;
 
 // A space and a number.
 pub fn number(n: usize) {
@@ -28,8 +12,7 @@ pub fn number(n: usize) {
 pub fn trouble(t: Trouble) {
     let kind = t.kind;
     let place = t.place;
-    io::write_all(1, b" ");
-    io::print_decimal(1, kind_number(kind));
+    number(kind_number(kind));
     number(place);
 }
 
@@ -51,4 +34,17 @@ pub fn bytes(xs: &[u8]) {
         number(xs[i] as usize);
         i += 1;
     }
+}
+
+// How many elements of a list are not `x`.
+pub fn others(list: &[u16], x: u16) -> usize {
+    let mut n = 0;
+    let mut i = 0;
+    while i < list.len() {
+        if list[i] != x {
+            n += 1;
+        }
+        i += 1;
+    }
+    n
 }

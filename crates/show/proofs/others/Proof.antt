@@ -1,17 +1,17 @@
--- `network_run::left` is safe and ends. The loop's invariant: the count is at most the place. Assumes nothing.
+-- `show::others` is safe and ends. The loop's invariant: the count is at most the place. Assumes nothing.
 use borrow.Author.Needs.{needs}
 use native.Mathlib.Omega.{arith}
 use Prim.Native.Nat.{_≤_, _-_}
 use mathlib.Core.Logic.{⊎-elim}
 use lib.ListN.{length}
-use Rattle.network_run.proofs.left.Statement.{statement}
-use Rattle.network_run.proofs.left.Tie as tie
+use Rattle.show.proofs.others.Statement.{statement}
+use Rattle.show.proofs.others.Tie as tie
 
 abbrev Inv-loop : tie.InvT-loop
-Inv-loop work n₀ i₀ n i = (i ≤ length work) × (n ≤ i)
+Inv-loop list x n₀ i₀ n i = (i ≤ length list) × (n ≤ i)
 
 abbrev μ-loop : tie.MeasureT-loop
-μ-loop work n₀ i₀ n i = length work - i
+μ-loop list x n₀ i₀ n i = length list - i
 
 loop-holds : tie.Need-loop-holds Inv-loop μ-loop
 loop-holds c = search needs
@@ -37,8 +37,8 @@ loop-again c = ⊎-elim (λ w. (omega arith, omega arith)) (λ w. (omega arith, 
 returns : tie.Need-returns Inv-loop μ-loop
 returns c = search needs
 
-pub left-spec : {M : Type 1} → statement M
-left-spec =
+pub others-spec : {M : Type 1} → statement M
+others-spec =
     tie.close
     (tie.spec
     Inv-loop

@@ -1,10 +1,10 @@
--- `show::list` is safe and ends. The loop's invariant: `i` is at most the length. Assumes nothing.
+-- `show::bytes` is safe and ends. The loop's invariant: `i` is at most the length. Assumes nothing.
 use Prim.Native.Nat.{_≤_, _-_}
 use native.Mathlib.Omega.{arith}
 use lib.ListN.{length}
 use borrow.Author.Needs.{needs}
-use Rattle.netfile_run.proofs.show.list.Statement.{statement}
-use Rattle.netfile_run.proofs.show.list.Tie as tie
+use Rattle.show.proofs.bytes.Statement.{statement}
+use Rattle.show.proofs.bytes.Tie as tie
 
 abbrev Inv-loop : tie.InvT-loop
 Inv-loop xs i₀ i = i ≤ length xs
@@ -20,9 +20,6 @@ write-all-requires c κs = search needs
 
 loop-holds : tie.Need-loop-holds Inv-loop μ-loop
 loop-holds c = search needs
-
-mul-number : tie.Need-mul-number Inv-loop μ-loop
-mul-number c = search needs
 
 shared-slice-read-number : tie.Need-shared-slice-read-number Inv-loop μ-loop
 shared-slice-read-number c = search needs
@@ -45,8 +42,8 @@ loop-again c = search needs
 returns : tie.Need-returns Inv-loop μ-loop
 returns c = search needs
 
-pub list-spec : {M : Type 1} → statement M
-list-spec =
+pub bytes-spec : {M : Type 1} → statement M
+bytes-spec =
     tie.close
     (tie.spec
     Inv-loop
@@ -54,7 +51,6 @@ list-spec =
     slice-aggregate-write-all
     write-all-requires
     loop-holds
-    mul-number
     shared-slice-read-number
     cast-number
     number-requires
