@@ -21,6 +21,7 @@ use Rattle.theory.proofs.Ground.Ascending.{run-in, in-run}
 use Rattle.theory.proofs.Reaching.Reach.{reach-trans, reaches-sound, reaches-complete, strong-sound, strong-complete}
 use Rattle.rows.specs.Rows.{Entry, Run, rows-of}
 use Rattle.rows.specs.Marks.{Marked}
+use Rattle.rows.specs.Arranged.{Arranged-at}
 use Rattle.rows.specs.Work.{starts-at, rows-at, turned-starts-at, turned-rows-at}
 use Rattle.rows.proofs.ArrangedLaws.{run-reach, reach-run, turned-run-reach, reach-turned-run}
 use Rattle.search.specs.Marking.{Clear, Searched}
@@ -42,34 +43,30 @@ swept w w' zones starts rows marks stack b clear S A =
     }
 
 module _ (n : ℕ) (ts hs : List ℕ) (F : Fine n ts hs) where
-  -- a run along the rows is a reach
-  run-reaches : (before w : List ℕ) → Standing before w n ts hs → {a b : ℕ} →
-      Run (Entry (rows-of w n (starts-at n) (rows-at n))) a b → Reach (handed n ts hs) a b
-  unfolding handed
-  run-reaches before w S r = run-reach w n (starts-at n) (rows-at n) (arcs-of ts hs) (S .rows) r
+  module _ (w : List ℕ) (starts rows : ℕ) where
+    -- a run along the rows is a reach
+    run-reaches : Arranged-at w n starts rows (arcs-of ts hs) → {a b : ℕ} →
+        Run (Entry (rows-of w n starts rows)) a b → Reach (handed n ts hs) a b
+    unfolding handed
+    run-reaches A r = run-reach w n starts rows (arcs-of ts hs) A r
 
-  -- a reach is a run along the rows
-  reaches-run : (before w : List ℕ) → Standing before w n ts hs → {a b : ℕ} → Reach (handed n ts hs) a b →
-      Run (Entry (rows-of w n (starts-at n) (rows-at n))) a b
-  unfolding handed
-  reaches-run before w S r =
-      reach-run w n (starts-at n) (rows-at n) (arcs-of ts hs) (S .rows) (arcs-within n ts hs F) r
+    -- a reach is a run along the rows
+    reaches-run : Arranged-at w n starts rows (arcs-of ts hs) → {a b : ℕ} → Reach (handed n ts hs) a b →
+        Run (Entry (rows-of w n starts rows)) a b
+    unfolding handed
+    reaches-run A r = reach-run w n starts rows (arcs-of ts hs) A (arcs-within n ts hs F) r
 
-  -- a run along the turned rows is a reach the other way
-  back-reaches : (before w : List ℕ) → Standing before w n ts hs → {a b : ℕ} →
-      Run (Entry (rows-of w n (turned-starts-at n (length ts)) (turned-rows-at n (length ts)))) a b →
-      Reach (handed n ts hs) b a
-  unfolding handed
-  back-reaches before w S r =
-      turned-run-reach ts hs w n (turned-starts-at n (length ts)) (turned-rows-at n (length ts)) (S .turned) r
+    -- a run along the turned rows is a reach the other way
+    back-reaches : Arranged-at w n starts rows (arcs-of hs ts) → {a b : ℕ} →
+        Run (Entry (rows-of w n starts rows)) a b → Reach (handed n ts hs) b a
+    unfolding handed
+    back-reaches A r = turned-run-reach ts hs w n starts rows A r
 
-  -- a reach is a run along the turned rows the other way
-  reaches-back : (before w : List ℕ) → Standing before w n ts hs → {a b : ℕ} → Reach (handed n ts hs) b a →
-      Run (Entry (rows-of w n (turned-starts-at n (length ts)) (turned-rows-at n (length ts)))) a b
-  unfolding handed
-  reaches-back before w S r =
-      reach-turned-run ts hs w n (turned-starts-at n (length ts)) (turned-rows-at n (length ts)) (S .turned)
-      (arcs-within n ts hs F) r
+    -- a reach is a run along the turned rows the other way
+    reaches-back : Arranged-at w n starts rows (arcs-of hs ts) → {a b : ℕ} → Reach (handed n ts hs) b a →
+        Run (Entry (rows-of w n starts rows)) a b
+    unfolding handed
+    reaches-back A r = reach-turned-run ts hs w n starts rows A (arcs-within n ts hs F) r
 
   -- a network in which zone 0 reaches every zone and every zone reaches zone 0 is strong
   pub strong-by-zero : ((v : ℕ) → v < n → Reach (handed n ts hs) 0 v) →
@@ -96,27 +93,29 @@ module _ (n : ℕ) (ts hs : List ℕ) (F : Fine n ts hs) where
       Swept v v' n (turned-starts-at n (length ts)) (turned-rows-at n (length ts)) c d back →
       (there && back) ≡ strong (handed n ts hs)
   joined-truth before w w' v v' a b c d there back S T A B =
+      let s = turned-starts-at n (length ts) in
+      let r = turned-rows-at n (length ts) in
       bool-agree
       (λ e.
       let both = and-true there back e in
-      strong-by-zero (λ x h. run-reaches before w S (A .yes (both .0) x h))
-      (λ x h. back-reaches before v T (B .yes (both .1) x h)))
+      strong-by-zero (λ x h. run-reaches w (starts-at n) (rows-at n) (S .rows) (A .yes (both .0) x h))
+      (λ x h. back-reaches v s r (T .turned) (B .yes (both .1) x h)))
       (λ e.
-      true-and (A .no (λ x h. reaches-run before w S (zero-by-strong e x h .0)))
-      (B .no (λ x h. reaches-back before v T (zero-by-strong e x h .1))))
+      true-and (A .no (λ x h. reaches-run w (starts-at n) (rows-at n) (S .rows) (zero-by-strong e x h .0)))
+      (B .no (λ x h. reaches-back v s r (T .turned) (zero-by-strong e x h .1))))
 
-  -- a search from a zone marks another exactly where it reaches it
-  pub reached-truth : (before w w' : List ℕ) (from to stack : ℕ) → to < n → Standing before w n ts hs →
-      Clear w 0 n → Searched w w' n (starts-at n) (rows-at n) from 0 stack →
+  -- a search from a zone along the rows marks another exactly where it reaches it
+  pub reached-truth : (w w' : List ℕ) (starts rows from to stack : ℕ) → to < n →
+      Arranged-at w n starts rows (arcs-of ts hs) → Clear w 0 n → Searched w w' n starts rows from 0 stack →
       not (eqb (getD w' to 0) 0) ≡ reaches (handed n ts hs) from to
-  reached-truth before w w' from to stack h S clear D =
+  reached-truth w w' starts rows from to stack h A clear D =
       bool-agree
       (λ e.
       let marked : Marked w' 0 to = λ z. eqb-false (getD w' to 0) 0 (not-true _ e) (place z) in
       reaches-complete (fine-proper n ts hs F)
-      (run-reaches before w S (searched-clear w n (starts-at n) (rows-at n) 0 clear w' from stack D to h marked)))
+      (run-reaches w starts rows A (searched-clear w n starts rows 0 clear w' from stack D to h marked)))
       (λ e.
-      let m = D .complete to (reaches-run before w S (reaches-sound (handed n ts hs) from to e)) .1 in
+      let m = D .complete to (reaches-run w starts rows A (reaches-sound (handed n ts hs) from to e)) .1 in
       false-not (ne-eqb (getD w' to 0) 0 (λ z. m (ap (λ (k : ℕ). getD w' k 0) (omega arith) ∙ z))))
     where
       place : getD w' (0 + to) 0 ≡ 0 → getD w' to 0 ≡ 0

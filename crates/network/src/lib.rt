@@ -182,7 +182,7 @@ fn joined(zones: usize, tails: &[u16], heads: &[u16], work: &mut [u16]) -> bool
     both(there, back)
 }
 
-// Whether a search from one zone came to another.
+// Whether a search from one zone came to another. It goes along the arcs only, so these are arranged as given.
 fn reached(
     zones: usize,
     tails: &[u16],
@@ -195,7 +195,8 @@ fn reached(
     ensures { λ r. ⌜ Answered r (reaches (handed zones (now (tails .entry)) (now (heads .entry))) from to)
         (asked-work zones (length (now (tails .entry)))) (now (work .entry)) (now (work .exit)) ⌝ }
 {
-    ready(zones, tails, heads, work);
+    clear(work, zones);
+    arrange(tails, heads, work, zones, 12 * zones, 13 * zones + 1);
     search(work, zones, 12 * zones, 13 * zones + 1, from, 0, zones);
     let mark = work[to];
     clear(work, asked_work(zones, tails.len()));

@@ -69,9 +69,9 @@ sweep-requires c κs =
     let s = c .before .before .before .before .before .before .before .before in
     let a = s .args in
     let clear : Clear (r .last .1 .1 .1 .0) 0 (a .zones) = λ v h. readied-zero (r .ensures) _ (omega arith) in (
-      rows-searchable (a .zones) (a .tails .now) (a .heads .now) (s .pre .fine) (a .work .now) (r .last .1 .1 .1 .0)
-          (s .pre) (r .ensures .standing) 0 (a .zones) (omega arith) (omega arith) 0 (omega (arith, s .pre .fine .low))
-          clear,
+      rows-searchable (a .zones) (a .tails .now) (a .heads .now) (s .pre .fine) (r .last .1 .1 .1 .0)
+          (omega (arith, s .pre .room, r .ensures .standing .long)) 0 (a .zones) (omega arith) (omega arith) 0
+          (omega (arith, s .pre .fine .low)) clear (r .ensures .standing .rows),
       clear,
     )
 
@@ -104,9 +104,9 @@ sweep-requires-2 c κs =
     let d = c .before .before .before in
     let s = entry d in
     let a = s .args in (
-      turned-searchable (a .zones) (a .tails .now) (a .heads .now) (s .pre .fine) (a .work .now) (d .sweep .last .0)
-          (s .pre) (standing-here d) (2 * a .zones) (3 * a .zones) (omega arith) (omega arith) 0
-          (omega (arith, s .pre .fine .low)) (clear-here d),
+      turned-searchable (a .zones) (a .tails .now) (a .heads .now) (s .pre .fine) (d .sweep .last .0)
+          (omega (arith, s .pre .room, standing-here d .long)) (2 * a .zones) (3 * a .zones) (omega arith)
+          (omega arith) 0 (omega (arith, s .pre .fine .low)) (clear-here d) (standing-here d .turned),
       clear-here d,
     )
 

@@ -1,17 +1,63 @@
--- `network::reached` meets its contract: the search marks what the zone reaches, and clearing leaves what came behind.
--- Assumes nothing.
+-- `network::reached` meets its contract: the rows stand behind clear marks, the search marks what the zone reaches,
+-- and clearing leaves what came behind. Assumes nothing.
 use borrow.Author.Needs.{needs}
 use native.Mathlib.Omega.{arith}
 use mathlib.Core.Path.{_∙_}
 use lib.ListN.{length}
 use Rattle.rules.specs.Calls.{asked-work}
-use Rattle.network.proofs.Memory.{kept-standing, rows-searchable, readied-zero, cleared-back}
+use Rattle.search.specs.Marking.{Clear}
+use Rattle.search.proofs.Keeping.{kept-rows}
+use Rattle.network.proofs.Memory.{
+  Fresh,
+  cleared-fresh,
+  arranged-fresh,
+  fresh-zero,
+  rows-fit,
+  rows-searchable,
+  cleared-back,
+}
 use Rattle.network.proofs.Truth.{reached-truth}
 use Rattle.network.proofs.reached.Statement.{statement}
 use Rattle.network.proofs.reached.Tie as tie
 
-ready-requires : tie.Need-ready-requires
-ready-requires c κs = search needs
+-- the rows are arranged
+abbrev Here : Type 0
+Here = tie.After-arrange
+
+-- the function's entry
+abbrev entry : Here → tie.Start
+entry c = c .before .before .before .before .before .before .before .before .before
+
+-- the memory with the rows in it is fresh: its marks are zero, and past the asked part it is as it came
+fresh-here : (c : Here) →
+    Fresh (entry c .args .work .now) (c .arrange .last .1 .1 .0) (entry c .args .zones)
+    (asked-work (entry c .args .zones) (length (entry c .args .tails .now)))
+fresh-here c =
+    let a = entry c .args in
+    let p = entry c .pre .ready in
+    let asked = asked-work (a .zones) (length (a .tails .now)) in
+    arranged-fresh (cleared-fresh (a .work .now) (a .zones) asked (omega arith) (p .room))
+    (rw (c .before .before .before .before .clear .ensures) at (c .arrange .ensures)) (omega arith)
+    (rows-fit (a .zones) (a .tails .now) (a .heads .now) (p .fine))
+
+-- the marks of the search are clear
+clear-here : (c : Here) → Clear (c .arrange .last .1 .1 .0) 0 (entry c .args .zones)
+clear-here c v h = fresh-zero (fresh-here c) _ (omega arith)
+
+clear-requires : tie.Need-clear-requires
+clear-requires c κs = search needs
+
+mul-arrange : tie.Need-mul-arrange
+mul-arrange c = search needs
+
+mul-arrange-2 : tie.Need-mul-arrange-2
+mul-arrange-2 c = search needs
+
+add-arrange : tie.Need-add-arrange
+add-arrange c = search needs
+
+arrange-requires : tie.Need-arrange-requires
+arrange-requires c κs = search needs
 
 mul-search : tie.Need-mul-search
 mul-search c = search needs
@@ -24,12 +70,12 @@ add-search c = search needs
 
 search-requires : tie.Need-search-requires
 search-requires c κs =
-    let r = c .before .before .before .ready in
-    let s = c .before .before .before .before .before .before .before .before in
+    let d = c .before .before .before in
+    let s = entry d in
     let a = s .args in
-    rows-searchable (a .zones) (a .tails .now) (a .heads .now) (s .pre .ready .fine) (a .work .now)
-    (r .last .1 .1 .1 .0) (s .pre .ready) (r .ensures .standing) 0 (a .zones) (omega arith) (omega arith) (a .from)
-    (s .pre .from-zone) (λ v h. readied-zero (r .ensures) _ (omega arith))
+    rows-searchable (a .zones) (a .tails .now) (a .heads .now) (s .pre .ready .fine) (d .arrange .last .1 .1 .0)
+    (omega (arith, s .pre .ready .room, fresh-here d .long)) 0 (a .zones) (omega arith) (omega arith) (a .from)
+    (s .pre .from-zone) (clear-here d) (d .arrange .ensures .at)
 
 mul-mark : tie.Need-mul-mark
 mul-mark c = search needs
@@ -40,40 +86,41 @@ slice-read-mark c = search needs
 asked-work-requires : tie.Need-asked-work-requires
 asked-work-requires c κs = search needs
 
-clear-requires : tie.Need-clear-requires
-clear-requires c κs = search needs
+clear-requires-2 : tie.Need-clear-requires-2
+clear-requires-2 c κs = search needs
 
 same-length : tie.Need-same-length
 same-length c = search needs
 
 returns : tie.Need-returns
 returns c =
-    let x = c .before .before .clear in
+    let x = c .before .before .clear2 in
     let told = c .before .before .before .asked-work .ensures in
-    let d = c .before .before .before .before .before .before .before .before in
-    let r = d .before .before .before .before .ready in
-    let s = d .before .before .before .before .before .before .before .before .before in
+    let found = c .before .before .before .before .before .before .before .before .search in
+    let d = c .before .before .before .before .before .before .before .before .before .before .before .before in
+    let s = entry d in
     let a = s .args in
-    let F = s .pre .ready .fine in
+    let w = d .arrange .last .1 .1 .0 in
     let asked = asked-work (a .zones) (length (a .tails .now)) in
-    let after =
-    kept-standing (a .zones) (a .tails .now) (a .heads .now) F (a .work .now) (r .last .1 .1 .1 .0)
-    (d .search .last .0) 0
-    (a .zones) (omega arith) (d .search .ensures .kept) (r .ensures .standing) in
+    let beyond = kept-rows w (found .last .0) 0 (a .zones) (a .zones) (found .ensures .kept) asked (omega arith) in
     record {
       answer =
-          reached-truth (a .zones) (a .tails .now) (a .heads .now) F (a .work .now) (r .last .1 .1 .1 .0)
-          (d .search .last .0) (a .from) (a .to) (a .zones) (s .pre .to-zone) (r .ensures .standing)
-          (λ v h. readied-zero (r .ensures) _ (omega arith))
-          (d .search .ensures);
-      work = rw told at (x .ensures) ∙ cleared-back asked (a .work .now) (d .search .last .0) (after .beyond);
+          reached-truth (a .zones) (a .tails .now) (a .heads .now) (s .pre .ready .fine) w (found .last .0) _ _
+          (a .from) (a .to) (a .zones) (s .pre .to-zone) (d .arrange .ensures .at) (clear-here d) (found .ensures);
+      work =
+          rw told at (x .ensures)
+          ∙ cleared-back asked (a .work .now) (found .last .0) (beyond ∙ fresh-here d .beyond);
     }
 
 pub reached-spec : {M : Type 1} → statement M
 reached-spec =
     tie.close
     (tie.spec
-    ready-requires
+    clear-requires
+    mul-arrange
+    mul-arrange-2
+    add-arrange
+    arrange-requires
     mul-search
     mul-search-2
     add-search
@@ -81,6 +128,6 @@ reached-spec =
     mul-mark
     slice-read-mark
     asked-work-requires
-    clear-requires
+    clear-requires-2
     same-length
     returns)
