@@ -7,11 +7,12 @@ ghost use Prim.Native.Nat.{_<_};
 ghost use lib.ListN.{getD};
 ghost use Rattle.rules.specs.Cases.{rows, row-numbers};
 
-// A row is three lists. The first has the letter (45, a dash, where there is none), what is asked for (0 the plan, 1 the
-// skeleton, 2 reading a file), the zone count, how many numbers are given, how many are wanted, and the answer's numbers:
-// of a plan s, t, q, p and need, of a skeleton its arc count, of a file the refusal's number and place. The second has
-// what is given, arcs or a file's bytes, and the third what is wanted, links or the bytes of the skeleton's file. An arc
-// is one number, 0x23 for the arc from 2 to 3, and so is a link, 0x150 for the chain link from 5 to 0.
+// A row is three lists. The first has the letter (45, a dash, where there is none), what is asked for (0 the plan, 1
+// the skeleton, 2 reading a file), the zone count, how many numbers are given, how many are wanted, and the answer's
+// numbers: of a plan s, t, q, p and need, of a skeleton its arc count, of a file the refusal's number and place. The
+// second has what is given, arcs or a file's bytes, and the third what is wanted, links or the bytes of the
+// skeleton's file. An arc is one number, 0x23 for the arc from 2 to 3, and so is a link, 0x150 for the chain link
+// from 5 to 0.
 const ROWS: [[[u16; 10]; 3]; 20] = [
     // A: ring and chain
     [

@@ -1,5 +1,5 @@
--- What each function of the C interface promises, for every input: the eight numbers of its answer, and every list that
--- it may change, as document 01's rules say them.
+-- What each function of the C interface promises, for every input: the eight numbers of its answer, and every list
+-- that it may change, as document 01's rules say them.
 --   C-read, C-write, C-strong, C-reach, C-skeleton, C-plan     of linkplan_read, linkplan_write and so on
 -- `eight` is the answer at the end, and a list with ' what was lent, at the end. Each field is an equation whose right
 -- side speaks of the input alone, so any two outcomes of a call are equal.

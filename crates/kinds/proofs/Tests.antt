@@ -105,10 +105,12 @@ module _ (w : List ℕ) (n x y z : ℕ) where
   own-into-no a b = rw (eq-eqb (cell w (5 * n) z) z a, ne-eqb (cell w (2 * n) z) x b)
 
   -- Another number stands in the region of what is left.
-  pub own-left-no : cell w (5 * n) z ≡ z → cell w (2 * n) z ≡ x → cell w (3 * n) z ≢ y → 0 ≡ yes-number (own-kind w n x y z)
+  pub own-left-no : cell w (5 * n) z ≡ z → cell w (2 * n) z ≡ x → cell w (3 * n) z ≢ y
+      → 0 ≡ yes-number (own-kind w n x y z)
   own-left-no a b c =
       rw (eq-eqb (cell w (5 * n) z) z a, eq-eqb (cell w (2 * n) z) x b, ne-eqb (cell w (3 * n) z) y c)
 
   -- The zone is a name of the kind.
-  pub own-yes : cell w (5 * n) z ≡ z → cell w (2 * n) z ≡ x → cell w (3 * n) z ≡ y → 1 ≡ yes-number (own-kind w n x y z)
+  pub own-yes : cell w (5 * n) z ≡ z → cell w (2 * n) z ≡ x → cell w (3 * n) z ≡ y
+      → 1 ≡ yes-number (own-kind w n x y z)
   own-yes a b c = rw (eq-eqb (cell w (5 * n) z) z a, eq-eqb (cell w (2 * n) z) x b, eq-eqb (cell w (3 * n) z) y c)

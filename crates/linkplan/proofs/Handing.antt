@@ -4,7 +4,8 @@
 --   read-hands         a file that was read hands on such a network
 --   handed-plannable   which passes every test of PLAN
 --   handed-prints      and the lines of whose plan are printed
--- The promise of reading says what is found, and an accepted file holds a network that a call accepts. Assumes nothing.
+-- The promise of reading says what is found, and an accepted file holds a network that a call accepts. Assumes
+-- nothing.
 use Prim.Native.Nat.{ℕ, _≤_}
 use native.Mathlib.Omega.{arith}
 use mathlib.Core.Path.{_≡_, refl, sym, ap, _∙_}

@@ -90,8 +90,8 @@ fn put_planned(
     put_answer(zones, tails.len(), answer, from, to, why, out)
 }
 
-// From the bytes of a file to the bytes that linkplan writes: they stand at the start of `out`, and their number is the
-// answer.
+// From the bytes of a file to the bytes that linkplan writes: they stand at the start of `out`, and their number is
+// the answer.
 fn respond(
     file: &[u8],
     tails: &mut [u16],

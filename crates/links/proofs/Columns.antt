@@ -1,8 +1,9 @@
--- The links in work memory are three columns: starts, ends and whys. More links behind those that are there, put column
--- by column, make each column longer.
+-- The links in work memory are three columns: starts, ends and whys. More links behind those that are there, put
+-- column by column, make each column longer.
 --   column-more, column-kept   links more in a column; links more in another column
 --   joined                two copies and a fill put n links of one why
---   Row-of v a b n k ls   the links ls go from the n elements of v after a to those after b, and their why has number k
+--   Row-of v a b n k ls   the links ls go from the n elements of v after a to those after b, and their why has number
+--                         k
 --   Inside p a n          the n elements after a lie behind the stations' place and before the whys
 --   Wrote p zones v u ls  u is v with the links ls put, and the same inside and behind the whys
 --   row-joins             a row of elements;  joinable   there is room for it;  wrote-more   it is put
@@ -66,7 +67,8 @@ column-kept u f g zones at to rs ls ms apart few more h =
 
 -- two copies and a fill put n links of one why
 pub joined : (w w₁ w₂ w₃ : List ℕ) (p : Places) (a b n reason at : ℕ) → Joinable w p a b n at →
-    Copied w w₁ a n (p .start + at) → Copied w₁ w₂ b n (p .end + at) → w₃ ≡ sets w₂ (p .why + at) (replicate n reason) →
+    Copied w w₁ a n (p .start + at) → Copied w₁ w₂ b n (p .end + at) →
+    w₃ ≡ sets w₂ (p .why + at) (replicate n reason) →
     Joined w w₃ p a b n reason at
 joined w w₁ w₂ w₃ p a b n reason at J A B C =
     let long : length (part w a n) ≡ n = part-long w a n (omega (arith, J .a-fits)) in
@@ -204,7 +206,8 @@ module _ (w : List ℕ) (zones : ℕ) (n : Counts) (p : Places) (L : Linkable w 
       why-put =
           column-more two why-of (p .why) ls ms why-fits
           (column-kept one why-of end-of zones (p .why) (p .end) ls ls ms (inr end-low) (omega arith) few
-          (column-kept u why-of start-of zones (p .why) (p .start) ls ls ms (inr start-low) (omega arith) few (W .why)))
+          (column-kept u why-of start-of zones (p .why) (p .start) ls ls ms (inr start-low) (omega arith) few
+          (W .why)))
 
       -- what lies inside is as it was
       inner-put : (at m : ℕ) → Inside p at m → part three at m ≡ part v at m
@@ -220,7 +223,8 @@ module _ (w : List ℕ) (zones : ℕ) (n : Counts) (p : Places) (L : Linkable w 
       behind-put : drop (p .why + zones) three ≡ drop (p .why + zones) v
       behind-put =
           drop-sets two (p .why + length ls) (whys ms) (p .why + zones) (omega (arith, length-map ms why-of))
-          ∙ drop-sets one (p .end + length ls) (ends ms) (p .why + zones) (omega (arith, end-low, length-map ms end-of))
+          ∙ drop-sets one (p .end + length ls) (ends ms) (p .why + zones)
+          (omega (arith, end-low, length-map ms end-of))
           ∙ drop-sets u (p .start + length ls) (starts ms) (p .why + zones)
           (omega (arith, start-low, length-map ms start-of))
           ∙ W .behind

@@ -4,7 +4,8 @@
 --   stations-pieces   the four pieces together are the stations
 --   piece-more        one piece more behind those that are copied
 --   stationed         four copies put the stations
--- The idea: a piece lies behind the stretch that changes, so that it is copied as it was at the start. Assumes nothing.
+-- The idea: a piece lies behind the stretch that changes, so that it is copied as it was at the start. Assumes
+-- nothing.
 use mathlib.Core.Path.{_≡_, refl, sym, ap, _∙_}
 use mathlib.Core.List.{List, _++_, map, append-assoc}
 use Prim.Native.Nat.{ℕ, zero, suc, _+_, _*_, _-_, _≤_, _<_, min}
@@ -26,7 +27,8 @@ use Rattle.links.proofs.Shapes.{couples-v, last-sink-drop, first-of-tak
 take-one : (w : List ℕ) (at n : ℕ) → part w at (min 1 n) ≡ take 1 (part w at n)
 take-one w at zero = refl
 take-one w at (suc n) =
-    ap (λ (k : ℕ). part w at k) {x = min 1 (suc n)} {y = 1} (omega arith) ∙ sym (part-take w at 1 (suc n) (omega arith))
+    ap (λ (k : ℕ). part w at k) {x = min 1 (suc n)} {y = 1} (omega arith)
+    ∙ sym (part-take w at 1 (suc n) (omega arith))
 
 -- the last element of a part, where it has one
 last-piece : (w : List ℕ) (at n : ℕ) → part w (at + (n - min 1 n)) (min 1 n) ≡ drop (n - 1) (part w at n)
@@ -188,7 +190,8 @@ module _ (w : List ℕ) (zones : ℕ) (n : Counts) (p : Places) (P : Placed w zo
       let e₄ : w₄ ≡ sets w (p .stations) (((last-part ++ surplus-part) ++ alone-part) ++ first-part) =
       piece-more w w₃ w₄ (p .stations) ((last-part ++ surplus-part) ++ alone-part)
       (first-at (n .pairs) (p .v) (p .alone)) (min 1 (n .pairs + n .alone))
-      (p .stations + (last + (n .sinks - n .sources) + n .alone)) (omega (arith, abc)) (omega (arith, inside .0, P .room)) e₃ (rw (f, s) at K₄)
+      (p .stations + (last + (n .sinks - n .sources) + n .alone)) (omega (arith, abc))
+      (omega (arith, inside .0, P .room)) e₃ (rw (f, s) at K₄)
       in
       record {
         count = omega (arith, stations-long, l, f);

@@ -22,7 +22,8 @@ joins y (a ∷ xs) [] = []
 joins y (a ∷ xs) (b ∷ ys) = record { start = a; end = b; why = y } ∷ joins y xs ys
 
 -- its starts
-pub joins-start : (y : Why) (xs ys : List ℕ) → length xs ≡ length ys → map (λ (l : Link). l .start) (joins y xs ys) ≡ xs
+pub joins-start : (y : Why) (xs ys : List ℕ) → length xs ≡ length ys
+    → map (λ (l : Link). l .start) (joins y xs ys) ≡ xs
 joins-start y [] ys e = refl
 joins-start y (a ∷ xs) [] e = absurd (omega arith)
 joins-start y (a ∷ xs) (b ∷ ys) e = ap (λ (l : List ℕ). a ∷ l) (joins-start y xs ys (omega arith))

@@ -85,7 +85,8 @@ module _
         in
         rw (rings-joins vs ws (as-many w zones n p P))
         (row-joins w' (p .w) (p .v + 1) (n .pairs - 1) ring (take (length ws - 1) ws) (drop 1 vs) from to
-        (ap length (sym from) ∙ part-long w' (p .w) (n .pairs - 1) (omega (arith, P .w-fits, P .why-fits, memory-long)))
+        (ap length (sym from)
+        ∙ part-long w' (p .w) (n .pairs - 1) (omega (arith, P .w-fits, P .why-fits, memory-long)))
         (ap length (sym to)
         ∙ part-long w' (p .v + 1) (n .pairs - 1) (omega (arith, P .v-fits, P .why-fits, memory-long))))
 
@@ -164,7 +165,8 @@ module _
       -- there is room for the rings
       pub ring-joinable : (u : List ℕ) → length u ≡ length w → Joinable u p (p .w) (p .v + 1) r 0
       ring-joinable u long =
-          joinable w zones n p L u (p .w) (p .v + 1) r 0 long (omega (arith, all-few)) (rw er w-inside) (rw er v-inside)
+          joinable w zones n p L u (p .w) (p .v + 1) r 0 long (omega (arith, all-few)) (rw er w-inside)
+          (rw er v-inside)
 
       -- there is room for the chain
       pub chain-joinable : (u : List ℕ) → length u ≡ length w → Joinable u p (p .stations) (p .stations + 1) q r
@@ -173,9 +175,11 @@ module _
           (rw eq stations-inside) (rw eq next-inside)
 
       -- there is room for the links back
-      pub back-joinable : (u : List ℕ) → length u ≡ length w → Joinable u p (p .sinks) (p .sources) (n .sources) (r + q)
+      pub back-joinable : (u : List ℕ) → length u ≡ length w
+          → Joinable u p (p .sinks) (p .sources) (n .sources) (r + q)
       back-joinable u long =
-          joinable w zones n p L u (p .sinks) (p .sources) (n .sources) (r + q) long all-few sinks-inside sources-inside
+          joinable w zones n p L u (p .sinks) (p .sources) (n .sources) (r + q) long all-few sinks-inside
+          sources-inside
 
       -- the three rows together are the links
       pub linked : (u₁ u₂ u₃ : List ℕ) → Joined w' u₁ p (p .w) (p .v + 1) r 0 0 →

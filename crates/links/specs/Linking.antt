@@ -63,8 +63,8 @@ abbrev pub first-at : ℕ → ℕ → ℕ → ℕ
 first-at zero v x = x
 first-at (suc k) v x = v
 
--- every list lies in the memory, behind the stretch for the stations, and before the whys; the stretch has room for the
--- stations
+-- every list lies in the memory, behind the stretch for the stations, and before the whys; the stretch has room for
+-- the stations
 pub record Placed (w : List ℕ) (zones : ℕ) (n : Counts) (p : Places) : Type 0 where
   pub order : n .sources ≤ n .sinks
   pub room : 2 + (n .sinks - n .sources) + n .alone ≤ 2 * zones

@@ -1,5 +1,5 @@
-// The links of an ordering, put into lent work memory as three lists: starts, ends and whys. The ordering's lists stand
-// there too, and the chain's stations are put there on the way.
+// The links of an ordering, put into lent work memory as three lists: starts, ends and whys. The ordering's lists
+// stand there too, and the chain's stations are put there on the way.
 ghost use mathlib.Core.Path.{_≡_};
 ghost use Prim.Native.Nat.{_+_, _-_, _≤_, min};
 ghost use lib.ListN.{length, replicate};

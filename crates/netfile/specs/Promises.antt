@@ -24,7 +24,8 @@ pub record Read-promise (file ts hs : List ℕ) (a : ReadAnswer) (ts' hs' : List
   pub tails : ts' ≡ read-leaves-tails file ts hs
   pub heads : hs' ≡ read-leaves-heads file ts hs
 
--- writing a network of n zones, tails ts and heads hs, where file is lent: the answer a, and what file holds afterwards
+-- writing a network of n zones, tails ts and heads hs, where file is lent: the answer a, and what file holds
+-- afterwards
 pub record Write-promise (n : ℕ) (ts hs file : List ℕ) (a : WriteAnswer) (file' : List ℕ) : Type 0 where
   pub says : write-told a ≡ write-says n ts hs file
   pub bytes : file' ≡ write-leaves-file n ts hs file

@@ -15,7 +15,9 @@ use Rattle.rules.specs.declared.StrongAnswer.{StrongAnswer}
 use Rattle.rules.specs.declared.ReachAnswer.{ReachAnswer}
 use Rattle.rules.specs.Answers.{trouble-refusal}
 use Rattle.rules.specs.Network.{strong, reaches}
-use Rattle.rules.specs.Calls.{first-trouble, network-tests, question-tests, room-test, asked-work, handed, strong-trouble, strong-says, strong-leaves-work, reach-trouble, reach-says, reach-leaves-work}
+use Rattle.rules.specs.Calls.{first-trouble, network-tests, question-tests, room-test, asked-work, handed}
+use Rattle.rules.specs.Calls.{strong-trouble, strong-says, strong-leaves-work}
+use Rattle.rules.specs.Calls.{reach-trouble, reach-says, reach-leaves-work}
 use Rattle.tests.proofs.Troubles.{passes, both-pass}
 use Rattle.tests.proofs.Fine.{fine}
 use Rattle.network.specs.Ready.{Readyable}

@@ -1,4 +1,5 @@
--- Connecting sources and sinks: the pairing gives the ordering of the network, and the links put are those of the rule.
+-- Connecting sources and sinks: the pairing gives the ordering of the network, and the links put are those of the
+-- rule.
 --   pairable     sources and sinks may be paired
 --   ordered      the pairing leaves the network's ordering;  pairs-low   no more pairs than sources, or than sinks
 --   linkable     the links may be put;  connected   they are those of the rule for s ≤ t

@@ -23,7 +23,8 @@ unfolding turned
 network-turned n ts hs = ap (λ (es : List Arc). network-of n es) (arcs-exchanged ts hs)
 
 -- links turned round start where the links end
-pub turned-starts : (ls : List Link) → map (λ (l : Link). l .start) (map turned-link ls) ≡ map (λ (l : Link). l .end) ls
+pub turned-starts : (ls : List Link)
+    → map (λ (l : Link). l .start) (map turned-link ls) ≡ map (λ (l : Link). l .end) ls
 unfolding turned-link
 turned-starts [] = refl
 turned-starts (l ∷ ls) = ap {B = List ℕ} (λ xs. l .end ∷ xs) (turned-starts ls)

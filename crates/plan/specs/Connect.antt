@@ -1,6 +1,6 @@
 -- What connecting sources and sinks asks and leaves in lent work memory.
---   Connectable ..   the arcs es are arranged in w, their network is not strong and has no more sources than sinks, and
---                    its sources, its sinks and its components alone stand in w
+--   Connectable ..   the arcs es are arranged in w, their network is not strong and has no more sources than sinks,
+--                    and its sources, its sinks and its components alone stand in w
 --   Connected ..     the links of the rule for s ≤ t stand in w', in three columns
 use mathlib.Core.Path.{_≡_}
 use mathlib.Core.Logic.{_⊎_}

@@ -108,9 +108,9 @@ fn connect(
     }
 }
 
-// Leaves the plan in the work memory: the links' starts from 0 on, their ends from `zones` on, and the numbers of their
-// whys from 11 times `zones` on. Where there are more sources than sinks the rule runs along the turned rows, and the
-// links' starts and ends change places.
+// Leaves the plan in the work memory: the links' starts from 0 on, their ends from `zones` on, and the numbers of
+// their whys from 11 times `zones` on. Where there are more sources than sinks the rule runs along the turned rows,
+// and the links' starts and ends change places.
 pub fn lay(zones: usize, tails: &[u16], heads: &[u16], work: &mut [u16]) -> Layout
     requires { ⌜ Readyable zones (now tails) (now heads) (now work) ⌝ }
     ensures { λ r. ⌜ Laid-out (now (work .entry)) (now (work .exit)) zones

@@ -45,8 +45,8 @@ use Rattle.records.proofs.need_of as no
 use Rattle.records.proofs.fill as fill
 use Rattle.records.proofs.finish as fin
 
--- what the function is handed: the lifetimes of tails, heads, records and work memory, a share of each, the zone count,
--- the two shared slices, and place, name and list of the two others
+-- what the function is handed: the lifetimes of tails, heads, records and work memory, a share of each, the zone
+-- count, the two shared slices, and place, name and list of the two others
 pub record Input : Type 0 where
   pub κ₀ : Lft
   pub κ₁ : Lft

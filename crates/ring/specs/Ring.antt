@@ -24,7 +24,8 @@ pub record First-above (name : ℕ → ℕ) (n a x r : ℕ) : Type 0 where
   pub is : r < n → name r ≡ x
   pub least : (c : ℕ) → a < c → c < r → name c ≡ x → ⊥
 
--- r is the next zone above a in its component; or a is the highest, and r the lowest, or n where a is the lowest itself
+-- r is the next zone above a in its component; or a is the highest, and r the lowest, or n where a is the lowest
+-- itself
 abbrev pub Ring-next : (ℕ → ℕ) → ℕ → ℕ → ℕ → Type 0
 Ring-next name n a r =
     (First-above name n a (name a) r × (r < n))

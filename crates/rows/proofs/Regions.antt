@@ -19,7 +19,8 @@ use native.Mathlib.Numerals.{add-one}
 use native.Mathlib.Omega.{arith}
 use lib.ListN.{length, getD, set, take, drop, length-take, length-drop, length-append, take-append-drop}
 use lib.Seq.{length-take-le, take-suc, take-nil, take-append-seam, drop-append-seam, drop-at, ext-getD, slice}
-use lib.Seq.{getD-take, getD-drop, drop-set-lt, drop-set-add, take-set-le, take-suc-set, take-take, take-add, drop-drop}
+use lib.Seq.{getD-take, getD-drop, drop-set-lt, drop-set-add, take-set-le, take-suc-set, take-take, take-add}
+use lib.Seq.{drop-drop}
 use Rattle.rows.specs.Regions.{part, Holds}
 use Rattle.rows.proofs.Parts.{part-at}
 

@@ -11,7 +11,8 @@ use mathlib.Core.Bool.{Bool, true, false}
 use lib.ListN.{replicate}
 use Rattle.rules.specs.Lists.{over}
 use Rattle.rules.specs.declared.Kind.{Kind}
-use Rattle.rules.specs.declared.Kind.the-variants.{Short, Long, Loose, Zones, Arcs, Range, SelfArc, Extra, Room, Pair}
+use Rattle.rules.specs.declared.Kind.the-variants.{Short, Long, Loose, Zones, Arcs, Range, SelfArc}
+use Rattle.rules.specs.declared.Kind.the-variants.{Extra, Room, Pair}
 use Rattle.rules.specs.declared.Trouble.{Trouble}
 use Rattle.rules.specs.declared.ReadAnswer.{ReadAnswer}
 use Rattle.rules.specs.declared.WriteAnswer.{WriteAnswer}

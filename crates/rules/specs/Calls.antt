@@ -1,4 +1,5 @@
--- What each call says of its input, and what it leaves in every list that it was lent (document 01, "When a call says no").
+-- What each call says of its input, and what it leaves in every list that it was lent (document 01, "When a call says
+-- no").
 --   Test, first-trouble   the tests of a call in their order, and the first that fails
 --   network-tests         PAIR, ZONES, ARCS, then arc by arc RANGE (tail, then head) and SELF
 --   question-tests        the two zones of a reach question

@@ -1,7 +1,7 @@
 -- The proved cases: one constant table, one test that is computed over all its rows, one statement.
 --   rows             document 01's lettered cases A to L, and eight networks of shapes that these leave out
---   row-right r      whether the definitions give what the row wants: links in order and counts, a skeleton's file, or a
---                    refusal's number and place
+--   row-right r      whether the definitions give what the row wants: links in order and counts, a skeleton's file,
+--                    or a refusal's number and place
 --   cases-right      every row is right
 --   kinds-right      the kinds of refusal have the numbers of document 01's table
 --   row-numbers r    the row as the numbers of a constant array, as the crate `cases` holds it and runs it
@@ -33,9 +33,10 @@ use Rattle.rules.specs.Plan.{Link, why-number, plan, plan-pairs, plan-ne
 use Rattle.rules.specs.File.{file-bytes}
 use Rattle.rules.specs.Calls.{read-says}
 
--- a row: document 01's letter (45, a dash, where it has none), what is asked for (0 the plan, 1 the skeleton, 2 reading a
--- file), the zone count, the arcs or the file's bytes, the links or the bytes of the skeleton's file, and the answer's
--- numbers: of a plan s, t, q, p and need, of a skeleton its arc count, of a file the refusal's number and place
+-- a row: document 01's letter (45, a dash, where it has none), what is asked for (0 the plan, 1 the skeleton, 2
+-- reading a file), the zone count, the arcs or the file's bytes, the links or the bytes of the skeleton's file, and
+-- the answer's numbers: of a plan s, t, q, p and need, of a skeleton its arc count, of a file the refusal's number
+-- and place
 pub record Row : Type 0 where
   pub letter : ℕ
   pub asks : ℕ

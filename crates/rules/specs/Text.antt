@@ -63,7 +63,8 @@ unfoldable pub refusal-line : Refusal → List ℕ
 unfolding word decimal
 refusal-line t = word "refused " ++ (decimal (t .number) ++ (word " at " ++ (decimal (t .place) ++ word "\n")))
 
--- all that is printed for the bytes s: linkplan lends the reading lists of 4,096 elements, so that there is always room
+-- all that is printed for the bytes s: linkplan lends the reading lists of 4,096 elements, so that there is always
+-- room
 unfoldable pub printed : List ℕ → List ℕ
 unfolding file-at plan-lines refusal-line
 printed s = elim (file-at s 4096 4096) [ bad t ↦ refusal-line t | got g end ↦ plan-lines g ]

@@ -1,6 +1,6 @@
 // What the calls answer: the kinds of refusal, a refusal with its place, and one answer for each of the six calls.
-// No algorithm is here. specs/ has document 01's rules as definitions that compute, and specs/Answers.antt sets out the
-// document's number, place and values for every case of every answer.
+// No algorithm is here. specs/ has document 01's rules as definitions that compute, and specs/Answers.antt sets out
+// the document's number, place and values for every case of every answer.
 ghost use mathlib.Core.Path.{_≡_};
 ghost use Rattle.rules.specs.Answers.{kind-number};
 

@@ -4,8 +4,8 @@
 --   Laid             marks and stack lie before the rows, and every row lies in the memory
 --   Clear w marks n          no zone has a mark
 --   Row-marked, Closed       all of a zone's row has marks; that is so of every zone that has a mark
---   Searchable, Searched     what the search asks, and what it leaves: the marks that were there, and marks exactly where a
---                            run of entries leads
+--   Searchable, Searched     what the search asks, and what it leaves: the marks that were there, and marks exactly
+--                            where a run of entries leads
 --   Visitable, Visited       the same for one row, whose unmarked zones are marked and put on the stack
 --   Searching        a search under way, with `top` zones on its stack
 -- No mark is 0.

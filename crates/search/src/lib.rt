@@ -62,8 +62,8 @@ fn drain(
     }
 }
 
-// Marks every zone that a run of entries leads to from the zone `from`, beside the marks that are there. These are closed:
-// where a zone has one, all of its row has.
+// Marks every zone that a run of entries leads to from the zone `from`, beside the marks that are there. These are
+// closed: where a zone has one, all of its row has.
 pub fn search(
     work: &mut [u16],
     zones: usize,

@@ -1,7 +1,7 @@
 -- What the promise of `skeleton` leaves open: nothing.
 --   skeleton-outcomes-equal    any two outcomes of SKELETON that its promise allows are equal
--- An outcome is the answer and the three lent lists as they are left. Both outcomes say what the rules say, and what an
--- answer says settles it. Assumes nothing.
+-- An outcome is the answer and the three lent lists as they are left. Both outcomes say what the rules say, and what
+-- an answer says settles it. Assumes nothing.
 use Prim.Native.Nat.{ℕ}
 use mathlib.Core.Path.{_≡_, sym, _∙_}
 use mathlib.Core.List.{List}

@@ -55,7 +55,8 @@ pub record Zone-put (w w' : List ℕ) (n : ℕ) (ts hs : List ℕ) (a : ℕ) (ot
     pub put : Put ots ohs ots' ohs' at (skeleton-row (handed n ts hs) n a) r
 
 -- the skeleton's arcs from the zones below a are put, and the work memory is kept from 4 n on
-pub record Rows-put (w w' : List ℕ) (n : ℕ) (ts hs : List ℕ) (a : ℕ) (ots ohs ots' ohs' : List ℕ) (r : ℕ) : Type 0 where
+pub record Rows-put (w w' : List ℕ) (n : ℕ) (ts hs : List ℕ) (a : ℕ) (ots ohs ots' ohs' : List ℕ) (r : ℕ)
+    : Type 0 where
   pub long : length w' ≡ length w
   pub high : drop (4 * n) w' ≡ drop (4 * n) w
   pub put : Put ots ohs ots' ohs' 0 (skeleton-part (handed n ts hs) n a) r

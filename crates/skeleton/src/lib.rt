@@ -1,5 +1,5 @@
-// SKELETON: the skeleton of a network, in two lent lists. For each zone in turn the heads of its arcs are marked in the
-// work memory, and then put out in ascending order.
+// SKELETON: the skeleton of a network, in two lent lists. For each zone in turn the heads of its arcs are marked in
+// the work memory, and then put out in ascending order.
 ghost use mathlib.Core.Path.{_≡_};
 ghost use mathlib.Core.List.{[], _∷_, _++_};
 ghost use Prim.Native.Nat.{_+_, _≤_, _<_};

@@ -1,7 +1,7 @@
 // Runs `skeleton`: document 01's case J, skeletons of skeletons, repeats, one component of all zones, no arcs, the
-// largest sizes, and every refusal. A line has the label, the number, the place, the arc count, the arcs that were put,
-// and how many elements of the work memory are not zero then. Of long lists it has how many elements were put, and
-// their sum.
+// largest sizes, and every refusal. A line has the label, the number, the place, the arc count, the arcs that were
+// put, and how many elements of the work memory are not zero then. Of long lists it has how many elements were put,
+// and their sum.
 use rules::SkeletonAnswer;
 use rules::Trouble;
 use show::number;

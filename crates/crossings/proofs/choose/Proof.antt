@@ -1,5 +1,5 @@
--- `crossings::choose` meets its contract: after `k` turns the first `k` names are tried. The measure is what is left of
--- the names. Assumes nothing.
+-- `crossings::choose` meets its contract: after `k` turns the first `k` names are tried. The measure is what is left
+-- of the names. Assumes nothing.
 use borrow.Author.Needs.{needs}
 use native.Mathlib.Omega.{arith}
 use Prim.Native.Nat.{_+_, _*_, _≤_, _<_, _-_}

@@ -31,10 +31,14 @@ put-name-requires c κs =
     let s = c .before .before .before .before in
     let a = s .args in
     record {
-      room = list-room (a .work .now) (l .work) (a .zones) (a .to) (a .x) (a .y) (l .z) (l .next) (s .pre) (omega arith)
+      room =
+          list-room (a .work .now) (l .work) (a .zones) (a .to) (a .x) (a .y) (l .z) (l .next) (s .pre)
+          (omega arith)
           (l .inv .1);
       zone = omega arith;
-      fits = list-fits (a .work .now) (l .work) (a .zones) (a .to) (a .x) (a .y) (l .z) (l .next) (s .pre) (omega arith)
+      fits =
+          list-fits (a .work .now) (l .work) (a .zones) (a .to) (a .x) (a .y) (l .z) (l .next) (s .pre)
+          (omega arith)
           (l .inv .1);
     }
 

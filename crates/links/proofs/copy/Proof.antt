@@ -1,5 +1,5 @@
--- `links::copy` meets its contract: the first i elements are copied, and a turn copies one more. The measure is what is
--- left to copy. Assumes nothing.
+-- `links::copy` meets its contract: the first i elements are copied, and a turn copies one more. The measure is what
+-- is left to copy. Assumes nothing.
 use Prim.Native.Nat.{_≤_, _-_}
 use mathlib.Core.Path.{_≡_}
 use Rattle.links.specs.Stores.{Copied}

@@ -1,5 +1,5 @@
--- `plan::plan` meets its contract: a trouble is refused and changes nothing, and without one the plan that was laid out
--- is copied out, and the work memory is cleared. Assumes nothing.
+-- `plan::plan` meets its contract: a trouble is refused and changes nothing, and without one the plan that was laid
+-- out is copied out, and the work memory is cleared. Assumes nothing.
 use Prim.Native.Nat.{_≤_, min}
 use mathlib.Core.Path.{_≡_, sym, ap, _∙_}
 use mathlib.Core.Option.{none}
@@ -80,7 +80,8 @@ three c = c .before .before .before .before .before
 
 -- the work memory is as long as asked
 work-room : (c : Laid) →
-    asked-work (entry (here c .before .before) .args .zones) (length (entry (here c .before .before) .args .tails .now))
+    asked-work (entry (here c .before .before) .args .zones)
+    (length (entry (here c .before .before) .args .tails .now))
     ≤ length (c .lay .last .1 .1 .1 .0)
 work-room c = omega (arith, plannable (here c) .ready .room, c .lay .ensures .long)
 

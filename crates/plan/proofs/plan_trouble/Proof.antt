@@ -1,4 +1,5 @@
--- `plan::plan_trouble` meets its contract: a trouble of the network or of the work memory comes first. Assumes nothing.
+-- `plan::plan_trouble` meets its contract: a trouble of the network or of the work memory comes first. Assumes
+-- nothing.
 use mathlib.Core.Path.{sym, ap, _∙_}
 use Rattle.tests.specs.Tested.{tested-trouble}
 use Rattle.plan.proofs.Rooms.{work-first, then-room}

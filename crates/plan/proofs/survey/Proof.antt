@@ -23,7 +23,8 @@ name-all-requires c κs =
       a .tails .now,
       (
         a .heads .now,
-        for-naming (a .zones) (a .tails .now) (a .heads .now) (a .work .now) (start r .pre) (r .ready .last .1 .1 .1 .0)
+        for-naming (a .zones) (a .tails .now) (a .heads .now) (a .work .now) (start r .pre)
+            (r .ready .last .1 .1 .1 .0)
             (r .ready .ensures),
       ),
     )

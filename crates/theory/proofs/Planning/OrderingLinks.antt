@@ -47,7 +47,8 @@ use Rattle.rules.specs.Plan.{
   links,
 }
 use Rattle.theory.proofs.Ground.Counting.{Distinct, distinct-append, distinct-split, distinct-drop, drop-in}
-use Rattle.theory.proofs.Planning.Augment.{Relation, Tied, Linked, paired-sources, paired-sinks, sources-of, sinks-of}
+use Rattle.theory.proofs.Planning.Augment.{Relation, Tied, Linked, paired-sources, paired-sinks}
+use Rattle.theory.proofs.Planning.Augment.{sources-of, sinks-of}
 
 -- p - 1 rings
 rings-count : (cs : List Couple) → length (rings cs) ≡ length cs - 1

@@ -15,7 +15,8 @@ use native.Mathlib.Omega.{arith}
 use lib.ListN.{length, length-map}
 use Rattle.rules.specs.Network.{Arc, Network, added, Proper, Strong, reaches, strong}
 use Rattle.rules.specs.Components.{names, sources, sinks, alone}
-use Rattle.rules.specs.Plan.{Link, link-arc, with-links, turned, turned-link, is-upright, ordering, upright-plan, plan, plan-need}
+use Rattle.rules.specs.Plan.{Link, link-arc, with-links, turned, turned-link, is-upright, ordering}
+use Rattle.rules.specs.Plan.{upright-plan, plan, plan-need}
 use Rattle.theory.proofs.Ground.Bools.{bool-cases}
 use Rattle.theory.proofs.Reaching.KindLaws.{
   source-is,

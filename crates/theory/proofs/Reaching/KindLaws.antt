@@ -21,7 +21,8 @@ use Rattle.rules.specs.Components.{together, names, left, entered, sources, sin
 use Rattle.theory.proofs.Ground.Bools.{bool-cases, bool-agree, and-true, true-and, true-not-false, true-unless}
 use Rattle.theory.proofs.Ground.Bools.{false-unless, false-not}
 use Rattle.theory.proofs.Ground.Lists.{any-true, true-any, keep-in, in-keep}
-use Rattle.theory.proofs.Reaching.Components.{Together, together-sound, together-complete, together-refl, together-sym}
+use Rattle.theory.proofs.Reaching.Components.{Together, together-sound, together-complete}
+use Rattle.theory.proofs.Reaching.Components.{together-refl, together-sym}
 use Rattle.theory.proofs.Reaching.Components.{together-trans, names-ascending}
 use Rattle.theory.proofs.Ground.Counting.{Distinct, ascending-distinct}
 use Rattle.theory.proofs.Ground.Ascending.{keep-ascending}

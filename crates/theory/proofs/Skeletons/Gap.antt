@@ -23,7 +23,8 @@ use Rattle.theory.proofs.Reaching.Components.{
   together-sym,
   together-trans,
 }
-use Rattle.theory.proofs.Skeletons.SkeletonLaws.{Between, Joined, joined-true, true-joined, not-apart, clear-true}
+use Rattle.theory.proofs.Skeletons.SkeletonLaws.{Between, Joined, joined-true, true-joined, not-apart}
+use Rattle.theory.proofs.Skeletons.SkeletonLaws.{clear-true}
 
 -- two zones are together or not
 pub together-cases : {N : Network} → Proper N → (a b : ℕ) → Together N a b ⊎ (Together N a b → ⊥)

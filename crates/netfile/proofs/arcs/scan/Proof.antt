@@ -1,5 +1,5 @@
--- `arcs::scan` meets its contract. The loop's invariant: all arcs are those that were found, with what is ahead at `c`.
--- Assumes nothing.
+-- `arcs::scan` meets its contract. The loop's invariant: all arcs are those that were found, with what is ahead at
+-- `c`. Assumes nothing.
 use Prim.Native.Nat.{_≤_, _-_}
 use native.Mathlib.Omega.{arith}
 use mathlib.Core.List.{List, [], _∷_, _++_}

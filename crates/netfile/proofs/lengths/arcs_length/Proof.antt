@@ -1,5 +1,5 @@
--- `lengths::arcs_length` meets its contract. The loop's invariant: the bytes of all arcs are `total`, with those of the
--- arcs from `i` on. Assumes nothing.
+-- `lengths::arcs_length` meets its contract. The loop's invariant: the bytes of all arcs are `total`, with those of
+-- the arcs from `i` on. Assumes nothing.
 use Prim.Native.Nat.{_+_, _*_, _-_, _≤_}
 use native.Mathlib.Omega.{arith}
 use mathlib.Core.Path.{_≡_, ap}

@@ -31,8 +31,10 @@ put-arcs-requires c κs =
     let f = m .before .before .before .before .put-number in
     let long : length (f .last .0) ≡ length (a .file .now) = ap length (f .ensures .1) ∙ simp length-sets in
     let g = m .put-number2 in
-    let long' : length (g .last .0) ≡ length (a .file .now) = ap length (g .ensures .1) ∙ simp length-sets long in
-    (b .pre .0 .1 .0, omega (arith, long', written-length (a .zones) (a .tails .now) (a .heads .now) (b .pre .0 .1 .0)))
+    let long' : length (g .last .0) ≡ length (a .file .now) = ap length (g .ensures .1) ∙ simp length-sets long in (
+      b .pre .0 .1 .0,
+      omega (arith, long', written-length (a .zones) (a .tails .now) (a .heads .now) (b .pre .0 .1 .0)),
+    )
 
 same-length : tie.Need-same-length
 same-length c = search needs

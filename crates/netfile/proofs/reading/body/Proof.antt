@@ -1,5 +1,5 @@
--- `reading::body` meets its contract: each return is the case of `body-at` that the pass that tests, or the file's end,
--- picks; the arcs are stored in the last. Assumes nothing.
+-- `reading::body` meets its contract: each return is the case of `body-at` that the pass that tests, or the file's
+-- end, picks; the arcs are stored in the last. Assumes nothing.
 use native.Mathlib.Omega.{arith}
 use borrow.Author.Needs.{needs}
 use Rattle.netfile.proofs.Wholes.{arcs-count, body-bad, body-extra, body-got, put-bad, put-got}

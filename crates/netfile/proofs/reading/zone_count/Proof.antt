@@ -1,4 +1,5 @@
--- `reading::zone_count` meets its contract: each return is the case of `zones-at` that its tests pick. Assumes nothing.
+-- `reading::zone_count` meets its contract: each return is the case of `zones-at` that its tests pick. Assumes
+-- nothing.
 use mathlib.Core.Path.{_∙_, sym, ap}
 use borrow.Author.Tests.{lt-ltb, le-ltb, eq-eqb, ne-eqb}
 use borrow.Author.Needs.{needs}

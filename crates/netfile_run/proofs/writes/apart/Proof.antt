@@ -1,4 +1,5 @@
--- `writes::apart` is safe and ends. The loop's invariant: no more elements differ than were looked at. Assumes nothing.
+-- `writes::apart` is safe and ends. The loop's invariant: no more elements differ than were looked at. Assumes
+-- nothing.
 use Prim.Native.Nat.{_≤_, _-_}
 use native.Mathlib.Omega.{arith}
 use mathlib.Core.Logic.{⊎-elim}
