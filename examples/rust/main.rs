@@ -11,41 +11,11 @@
 
 use std::io::Read;
 
+#[path = "../../include/linkplan.rs"]
+mod linkplan;
+
 #[link(name = "clib", kind = "static")]
-extern "C" {
-    fn linkplan_read(
-        file: *const u8, file_len: usize,
-        tails: *mut u16, tails_len: usize, heads: *mut u16, heads_len: usize,
-        answer: *mut u64,
-    );
-    fn linkplan_write(
-        zones: usize, tails: *const u16, tails_len: usize, heads: *const u16, heads_len: usize,
-        file: *mut u8, file_len: usize,
-        answer: *mut u64,
-    );
-    fn linkplan_strong(
-        zones: usize, tails: *const u16, tails_len: usize, heads: *const u16, heads_len: usize,
-        work: *mut u16, work_len: usize,
-        answer: *mut u64,
-    );
-    fn linkplan_reach(
-        zones: usize, tails: *const u16, tails_len: usize, heads: *const u16, heads_len: usize,
-        from: usize, to: usize, work: *mut u16, work_len: usize,
-        answer: *mut u64,
-    );
-    fn linkplan_skeleton(
-        zones: usize, tails: *const u16, tails_len: usize, heads: *const u16, heads_len: usize,
-        out_tails: *mut u16, out_tails_len: usize, out_heads: *mut u16, out_heads_len: usize,
-        work: *mut u16, work_len: usize,
-        answer: *mut u64,
-    );
-    fn linkplan_plan(
-        zones: usize, tails: *const u16, tails_len: usize, heads: *const u16, heads_len: usize,
-        from: *mut u16, from_len: usize, to: *mut u16, to_len: usize, why: *mut u16, why_len: usize,
-        work: *mut u16, work_len: usize,
-        answer: *mut u64,
-    );
-}
+extern "C" {}
 
 /// A refusal: its number and its place.
 type Refusal = (u64, u64);
@@ -72,7 +42,7 @@ impl Network {
     fn read(file: &[u8]) -> Result<Network, Refusal> {
         let (mut tails, mut heads, mut answer) = (vec![0; 4096], vec![0; 4096], [0; 8]);
         unsafe {
-            linkplan_read(
+            linkplan::linkplan_read(
                 file.as_ptr(), file.len(),
                 tails.as_mut_ptr(), tails.len(), heads.as_mut_ptr(), heads.len(),
                 answer.as_mut_ptr(),
@@ -88,7 +58,7 @@ impl Network {
         let (mut file, mut answer) = (vec![0; 16_388], [0; 8]);
         let (tails, heads) = (&self.tails, &self.heads);
         unsafe {
-            linkplan_write(
+            linkplan::linkplan_write(
                 self.zones, tails.as_ptr(), tails.len(), heads.as_ptr(), heads.len(),
                 file.as_mut_ptr(), file.len(),
                 answer.as_mut_ptr(),
@@ -102,7 +72,7 @@ impl Network {
     fn strong(&mut self) -> Result<bool, Refusal> {
         let (tails, heads, work, mut answer) = (&self.tails, &self.heads, &mut self.work, [0; 8]);
         unsafe {
-            linkplan_strong(
+            linkplan::linkplan_strong(
                 self.zones, tails.as_ptr(), tails.len(), heads.as_ptr(), heads.len(),
                 work.as_mut_ptr(), work.len(),
                 answer.as_mut_ptr(),
@@ -114,7 +84,7 @@ impl Network {
     fn reach(&mut self, from: usize, to: usize) -> Result<bool, Refusal> {
         let (tails, heads, work, mut answer) = (&self.tails, &self.heads, &mut self.work, [0; 8]);
         unsafe {
-            linkplan_reach(
+            linkplan::linkplan_reach(
                 self.zones, tails.as_ptr(), tails.len(), heads.as_ptr(), heads.len(),
                 from, to, work.as_mut_ptr(), work.len(),
                 answer.as_mut_ptr(),
@@ -127,7 +97,7 @@ impl Network {
         let (tails, heads, work, mut answer) = (&self.tails, &self.heads, &mut self.work, [0; 8]);
         let (mut out_tails, mut out_heads) = (vec![0; tails.len()], vec![0; tails.len()]);
         unsafe {
-            linkplan_skeleton(
+            linkplan::linkplan_skeleton(
                 self.zones, tails.as_ptr(), tails.len(), heads.as_ptr(), heads.len(),
                 out_tails.as_mut_ptr(), out_tails.len(), out_heads.as_mut_ptr(), out_heads.len(),
                 work.as_mut_ptr(), work.len(),
@@ -144,7 +114,7 @@ impl Network {
         let (tails, heads, work, mut answer) = (&self.tails, &self.heads, &mut self.work, [0; 8]);
         let (mut from, mut to, mut why) = (vec![0; self.zones], vec![0; self.zones], vec![0; self.zones]);
         unsafe {
-            linkplan_plan(
+            linkplan::linkplan_plan(
                 self.zones, tails.as_ptr(), tails.len(), heads.as_ptr(), heads.len(),
                 from.as_mut_ptr(), from.len(), to.as_mut_ptr(), to.len(), why.as_mut_ptr(), why.len(),
                 work.as_mut_ptr(), work.len(),
