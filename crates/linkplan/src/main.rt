@@ -42,32 +42,28 @@ fn put_answer(
         r (now (out .exit)) ⌝ }
 {
     match answer {
-        PlanAnswer::Refused(t) => {
-            return refuse(t, out);
-        }
+        PlanAnswer::Refused(t) => return refuse(t, out),
         PlanAnswer::Done {
             sources,
             sinks,
             alone,
             pairs,
             need,
-        } => {
-            return put_plan(
-                out,
-                0,
-                zones,
-                arcs,
-                sources,
-                sinks,
-                alone,
-                pairs,
-                need,
-                from,
-                to,
-                why,
-                need,
-            );
-        }
+        } => return put_plan(
+            out,
+            0,
+            zones,
+            arcs,
+            sources,
+            sinks,
+            alone,
+            pairs,
+            need,
+            from,
+            to,
+            why,
+            need,
+        ),
     }
 }
 
