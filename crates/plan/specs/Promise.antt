@@ -1,4 +1,5 @@
 -- What PLAN promises, and what laying a plan leaves in lent work memory.
+--   layout-of k c                 the numbers of the kinds, with the pairs and the links of a connection
 --   Laid-out before w n ts hs r   the plan stands in w in three columns, and r has the numbers that the answer carries
 --   Plan-promise ..               the answer, and what each lent list holds afterwards, for every input
 use mathlib.Core.Path.{_≡_}
@@ -12,8 +13,15 @@ use Rattle.rules.specs.Plan.{Link, why-number, plan, plan-pairs, plan-need}
 use Rattle.rules.specs.Calls.{handed, asked-work, plan-says, plan-leaves-work}
 use Rattle.rules.specs.Calls.{plan-leaves-from, plan-leaves-to, plan-leaves-why}
 use Rattle.rows.specs.Regions.{Holds}
+use Rattle.kinds.specs.declared.Counts.{Counts}
+use Rattle.plan.specs.declared.Connection.{Connection}
 use Rattle.plan.specs.declared.Layout.{Layout}
 use Rattle.plan.specs.Connect.{whys-at}
+
+-- the numbers of the kinds, with the pairs and the links of a connection
+abbrev pub layout-of : Counts → Connection → Layout
+layout-of k c =
+    record { sources = k .sources; sinks = k .sinks; alone = k .alone; pairs = c .pairs; need = c .need }
 
 -- the plan stands in the memory, r has its numbers, and past the asked part the memory is as it came
 pub record Laid-out (before w : List ℕ) (n : ℕ) (ts hs : List ℕ) (r : Layout) : Type 0 where

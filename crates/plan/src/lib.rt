@@ -14,15 +14,16 @@ use rules::PlanAnswer;
 use tests::Tested;
 ghost use mathlib.Core.Path.{_≡_};
 ghost use mathlib.Core.List.{List, [], _∷_, _++_};
-ghost use Prim.Native.Nat.{min};
+ghost use Prim.Native.Nat.{_≤_, min};
 ghost use lib.ListN.{length};
 ghost use Rattle.rules.specs.Network.{Arc, network-of};
 ghost use Rattle.rules.specs.Calls.{first-trouble, network-tests, room-test, asked-work};
 ghost use Rattle.tests.specs.Tested.{tested-trouble};
 ghost use Rattle.network.specs.Ready.{Readyable};
 ghost use Rattle.plan.specs.Survey.{Surveyed};
-ghost use Rattle.plan.specs.Connect.{Connectable, Connected};
-ghost use Rattle.plan.specs.Promise.{Laid-out, Plan-promise};
+ghost use Rattle.plan.specs.Side.{as-given, turned-round, side-of};
+ghost use Rattle.plan.specs.Connect.{counts-of, places-of, Connectable, Connected};
+ghost use Rattle.plan.specs.Promise.{layout-of, Laid-out, Plan-promise};
 
 // What the laying of a plan answers: s, t, q, p and the number of links.
 pub struct Layout {
@@ -33,8 +34,15 @@ pub struct Layout {
     pub need: usize,
 }
 
-// Where the starts and the ends of the links are put.
-struct Columns {
+// The side on which the rule runs, as given or turned round: where the starts of its rows and its rows stand, how many
+// sources it has and where their names stand, the same of its sinks, and where its links' starts and ends are put.
+struct Side {
+    starts: usize,
+    rows: usize,
+    s: usize,
+    sources: usize,
+    t: usize,
+    sinks: usize,
     start: usize,
     end: usize,
 }
@@ -56,51 +64,103 @@ fn survey(zones: usize, tails: &[u16], heads: &[u16], work: &mut [u16]) -> kinds
     list_kinds(tails, heads, work, zones)
 }
 
-// Pairs the s sources that stand from `sources` on with the t sinks from `sinks` on, along the rows from `starts` and
-// `rows` on, and puts the links where the columns say.
-fn connect(
-    work: &mut [u16],
-    zones: usize,
-    starts: usize,
-    rows: usize,
-    s: usize,
-    sources: usize,
-    t: usize,
-    sinks: usize,
-    q: usize,
-    c: Columns,
-) -> Connection
-    requires { ⌜ ((es : List Arc) × Connectable (now work) zones starts rows s sources t sinks q c es) ⌝ }
-    ensures { λ r. ⌜ ((es : List Arc)
-        → Connectable (now (work .entry)) zones starts rows s sources t sinks q c es
-        → Connected (now (work .entry)) (now (work .exit)) zones c (network-of zones es) r) ⌝ }
+// The side as given: along the rows, from the sources to the sinks.
+fn as_given(zones: usize, k: kinds::Counts) -> Side
+    requires { ⌜ zones ≤ 1024 ⌝ }
+    ensures { λ r. ⌜ r ≡ as-given zones k ⌝ }
 {
-    let v = 8 * zones;
-    let w = 9 * zones;
-    let lone = 10 * zones;
-    let p = pair(work, zones, starts, rows, s, sources, t, sinks, v, w, lone);
-    let lone_sources = s - p;
-    let lone_sinks = t - p;
-    let alone = 7 * zones;
-    let stations = 2 * zones;
-    let why = 11 * zones;
-    let n = links::Counts {
+    Side {
+        starts: 12 * zones,
+        rows: 13 * zones + 1,
+        s: k.sources,
+        sources: 4 * zones,
+        t: k.sinks,
+        sinks: 6 * zones,
+        start: 0,
+        end: zones,
+    }
+}
+
+// The side turned round: along the turned rows, with sources and sinks exchanged, and the links' starts and ends.
+fn turned_round(zones: usize, arcs: usize, k: kinds::Counts) -> Side
+    requires { ⌜ (zones ≤ 1024) × (arcs ≤ 4096) ⌝ }
+    ensures { λ r. ⌜ r ≡ turned-round zones arcs k ⌝ }
+{
+    Side {
+        starts: 13 * zones + 1 + arcs,
+        rows: 14 * zones + 2 + arcs,
+        s: k.sinks,
+        sources: 6 * zones,
+        t: k.sources,
+        sinks: 4 * zones,
+        start: zones,
+        end: 0,
+    }
+}
+
+// The side on which the rule runs: as given, or turned round where there are more sources than sinks.
+fn side_of(zones: usize, arcs: usize, k: kinds::Counts) -> Side
+    requires { ⌜ (zones ≤ 1024) × (arcs ≤ 4096) ⌝ }
+    ensures { λ r. ⌜ r ≡ side-of zones arcs k ⌝ }
+{
+    if k.sources <= k.sinks {
+        return as_given(zones, k);
+    }
+    turned_round(zones, arcs, k)
+}
+
+// How many of each the links are made of, once p pairs are made on a side, with q components alone.
+fn counts_of(side: Side, p: usize, q: usize) -> links::Counts
+    requires { ⌜ (p ≤ side .s) × (p ≤ side .t) ⌝ }
+    ensures { λ r. ⌜ r ≡ counts-of side p q ⌝ }
+{
+    links::Counts {
         pairs: p,
-        sources: lone_sources,
-        sinks: lone_sinks,
+        sources: side.s - p,
+        sinks: side.t - p,
         alone: q,
-    };
-    let places = links::Places {
-        v: v,
-        w: w,
-        sources: lone,
-        sinks: sinks,
-        alone: alone,
-        stations: stations,
-        start: c.start,
-        end: c.end,
-        why: why,
-    };
+    }
+}
+
+// Where what the links are made of stands once the pairs are made on a side, and where the links are put.
+fn places_of(zones: usize, side: Side) -> links::Places
+    requires { ⌜ zones ≤ 1024 ⌝ }
+    ensures { λ r. ⌜ r ≡ places-of zones side ⌝ }
+{
+    links::Places {
+        v: 8 * zones,
+        w: 9 * zones,
+        sources: 10 * zones,
+        sinks: side.sinks,
+        alone: 7 * zones,
+        stations: 2 * zones,
+        start: side.start,
+        end: side.end,
+        why: 11 * zones,
+    }
+}
+
+// Pairs the sources of a side with its sinks, along its rows, and puts the links; q components are alone.
+fn connect(work: &mut [u16], zones: usize, q: usize, side: Side) -> Connection
+    requires { ⌜ ((es : List Arc) × Connectable (now work) zones q side es) ⌝ }
+    ensures { λ r. ⌜ ((es : List Arc) → Connectable (now (work .entry)) zones q side es
+        → Connected (now (work .entry)) (now (work .exit)) zones side (network-of zones es) r) ⌝ }
+{
+    let p = pair(
+        work,
+        zones,
+        side.starts,
+        side.rows,
+        side.s,
+        side.sources,
+        side.t,
+        side.sinks,
+        8 * zones,
+        9 * zones,
+        10 * zones,
+    );
+    let n = counts_of(side, p, q);
+    let places = places_of(zones, side);
     let need = put_links(work, zones, n, places);
     Connection {
         pairs: p,
@@ -108,76 +168,35 @@ fn connect(
     }
 }
 
+// The counts of the kinds, with the pairs and the links of a connection.
+fn layout_of(k: kinds::Counts, made: Connection) -> Layout
+    ensures { λ r. ⌜ r ≡ layout-of k made ⌝ }
+{
+    Layout {
+        sources: k.sources,
+        sinks: k.sinks,
+        alone: k.alone,
+        pairs: made.pairs,
+        need: made.need,
+    }
+}
+
 // Leaves the plan in the work memory: the links' starts from 0 on, their ends from `zones` on, and the numbers of
-// their whys from 11 times `zones` on. Where there are more sources than sinks the rule runs along the turned rows,
-// and the links' starts and ends change places.
+// their whys from 11 times `zones` on. A strong network has one component, alone, and gets no link.
 pub fn lay(zones: usize, tails: &[u16], heads: &[u16], work: &mut [u16]) -> Layout
     requires { ⌜ Readyable zones (now tails) (now heads) (now work) ⌝ }
     ensures { λ r. ⌜ Laid-out (now (work .entry)) (now (work .exit)) zones
         (now (tails .entry)) (now (heads .entry)) r ⌝ }
 {
-    let arcs = tails.len();
     let k = survey(zones, tails, heads, work);
-    let s = k.sources;
-    let t = k.sinks;
     let q = k.alone;
-    if s + t + q == 1 {
-        return Layout {
-            sources: s,
-            sinks: t,
-            alone: q,
-            pairs: 0,
-            need: 0,
-        };
+    if k.sources + k.sinks + q == 1 {
+        let none = Connection { pairs: 0, need: 0 };
+        return layout_of(k, none);
     }
-    if s <= t {
-        let c = Columns {
-            start: 0,
-            end: zones,
-        };
-        let made = connect(
-            work,
-            zones,
-            12 * zones,
-            13 * zones + 1,
-            s,
-            4 * zones,
-            t,
-            6 * zones,
-            q,
-            c,
-        );
-        return Layout {
-            sources: s,
-            sinks: t,
-            alone: q,
-            pairs: made.pairs,
-            need: made.need,
-        };
-    }
-    let c = Columns {
-        start: zones,
-        end: 0,
-    };
-    let made = connect(
-        work,
-        zones,
-        13 * zones + 1 + arcs,
-        14 * zones + 2 + arcs,
-        t,
-        6 * zones,
-        s,
-        4 * zones,
-        q,
-        c,
-    );
-    Layout {
-        sources: s,
-        sinks: t,
-        alone: q,
-        pairs: made.pairs,
-        need: made.need,
-    }
+    let side = side_of(zones, tails.len(), k);
+    let made = connect(work, zones, q, side);
+    layout_of(k, made)
 }
 
 // The lesser of two numbers.

@@ -1,7 +1,9 @@
--- `plan::lay` meets its contract: one way each for a strong network, for s ≤ t and for s > t. Assumes nothing.
+-- `plan::lay` meets its contract: a strong network has no link, and on any other the rule runs on the side that was
+-- picked. Assumes nothing.
+use mathlib.Core.List.{List}
 use Prim.Native.Nat.{_+_, _≤_}
-use Rattle.rules.specs.Calls.{arcs-of}
-use Rattle.plan.proofs.Laying.{sums-small, laid-strong, for-upright, laid-upright, for-turned, laid-turned}
+use Rattle.rules.specs.Network.{Arc}
+use Rattle.plan.proofs.Laying.{sums-small, laid-strong, Runs, side-runs}
 use borrow.Author.Needs.{needs}
 use native.Mathlib.Omega.{arith}
 use Rattle.plan.proofs.lay.Statement.{statement}
@@ -15,6 +17,10 @@ Here = tie.After-survey
 abbrev start : Here → tie.Start
 start c = c .before .before .before .before .before
 
+-- the survey, from where its numbers are read
+abbrev here : tie.After-struct-known → Here
+here c = c .before .before .before
+
 -- the numbers of the kinds are small
 small : (c : Here) →
     c .survey .result .sources + c .survey .result .sinks + c .survey .result .alone ≤ start c .args .zones
@@ -23,121 +29,64 @@ small c =
     sums-small (a .zones) (a .tails .now) (a .heads .now) (a .work .now) (start c .pre) (c .survey .last .1 .1 .1 .0)
     (c .survey .result) (c .survey .ensures)
 
+-- a side is picked
+abbrev Picked : Type 0
+Picked = tie.After-side-of
+
+-- the rule may run on it, and what it leaves is the plan
+runs : (c : Picked) →
+    (es : List Arc)
+    × Runs (start (here (c .before .before)) .args .zones) (start (here (c .before .before)) .args .tails .now)
+    (start (here (c .before .before)) .args .heads .now) (start (here (c .before .before)) .args .work .now)
+    (here (c .before .before) .survey .last .1 .1 .1 .0) (here (c .before .before) .survey .result)
+    (c .side-of .result) es
+runs c =
+    let d = here (c .before .before) in
+    let a = start d .args in
+    side-runs (a .zones) (a .tails .now) (a .heads .now) (a .work .now) (start d .pre) (d .survey .last .1 .1 .1 .0)
+    (d .survey .result) (d .survey .ensures) (c .before .if1 .left) (c .side-of .result) (c .side-of .ensures)
+
 survey-requires : tie.Need-survey-requires
 survey-requires c κs = search needs
 
 add-if1 : tie.Need-add-if1
-add-if1 c =
-    let d = c .before .before in
-    omega (arith, small d, start d .pre .fine .high)
+add-if1 c = omega (arith, small (here c), start (here c) .pre .fine .high)
 
 add-if1-2 : tie.Need-add-if1-2
-add-if1-2 c =
-    let d = c .before .before in
-    omega (arith, small d, start d .pre .fine .high)
+add-if1-2 c = omega (arith, small (here c), start (here c) .pre .fine .high)
+
+layout-of-requires : tie.Need-layout-of-requires
+layout-of-requires c κs = search needs
 
 same-length : tie.Need-same-length
 same-length c = search needs
 
 returns : tie.Need-returns
 returns c =
-    let d = c .before .before .before in
+    let d = here (c .before .before) in
     let a = start d .args in
-    laid-strong (a .zones) (a .tails .now) (a .heads .now) (a .work .now) (start d .pre) (d .survey .last .1 .1 .1 .0)
-    (d .survey .result) (d .survey .ensures) (c .if1 .taken)
+    rw (c .layout-of .ensures)
+    (laid-strong (a .zones) (a .tails .now) (a .heads .now) (a .work .now) (start d .pre) (d .survey .last .1 .1 .1 .0)
+    (d .survey .result) (d .survey .ensures) (c .before .if1 .taken))
 
-mul-connect : tie.Need-mul-connect
-mul-connect c = search needs
-
-mul-connect-2 : tie.Need-mul-connect-2
-mul-connect-2 c = search needs
-
-add-connect : tie.Need-add-connect
-add-connect c = search needs
-
-mul-connect-3 : tie.Need-mul-connect-3
-mul-connect-3 c = search needs
-
-mul-connect-4 : tie.Need-mul-connect-4
-mul-connect-4 c = search needs
+side-of-requires : tie.Need-side-of-requires
+side-of-requires c κs = search needs
 
 connect-requires : tie.Need-connect-requires
-connect-requires c κs =
-    let d = c .before .before .before .before .before in
-    let a = start d .args in (
-      arcs-of (a .tails .now) (a .heads .now),
-      for-upright (a .zones) (a .tails .now) (a .heads .now) (a .work .now) (start d .pre)
-          (d .survey .last .1 .1 .1 .0) (d .survey .result) (d .survey .ensures) (c .before .before .if1 .left)
-          (c .before .if2 .taken),
-    )
+connect-requires c κs = let x = runs (c .before) in (x .0, x .1 .able)
+
+layout-of-requires-2 : tie.Need-layout-of-requires-2
+layout-of-requires-2 c κs = search needs
 
 same-length-2 : tie.Need-same-length-2
 same-length-2 c = search needs
 
 returns-2 : tie.Need-returns-2
 returns-2 c =
-    let f = c .before .before in
-    let e = f .before .before in
-    let d = e .before .before .before .before in
-    let a = start d .args in
-    let able =
-    for-upright (a .zones) (a .tails .now) (a .heads .now) (a .work .now) (start d .pre) (d .survey .last .1 .1 .1 .0)
-    (d .survey .result) (d .survey .ensures) (e .before .if1 .left) (e .if2 .taken)
-    in
-    laid-upright (a .zones) (a .tails .now) (a .heads .now) (a .work .now) (start d .pre) (d .survey .last .1 .1 .1 .0)
-    (d .survey .result) (d .survey .ensures) (e .before .if1 .left) (e .if2 .taken)
-    (f .connect .last .0) (f .connect .result) (f .connect .ensures (arcs-of (a .tails .now) (a .heads .now)) able)
-
-mul-connect-5 : tie.Need-mul-connect-5
-mul-connect-5 c = search needs
-
-add-connect-2 : tie.Need-add-connect-2
-add-connect-2 c = search needs
-
-add-connect-3 : tie.Need-add-connect-3
-add-connect-3 c = search needs
-
-mul-connect-6 : tie.Need-mul-connect-6
-mul-connect-6 c = search needs
-
-add-connect-4 : tie.Need-add-connect-4
-add-connect-4 c = search needs
-
-add-connect-5 : tie.Need-add-connect-5
-add-connect-5 c = search needs
-
-mul-connect-7 : tie.Need-mul-connect-7
-mul-connect-7 c = search needs
-
-mul-connect-8 : tie.Need-mul-connect-8
-mul-connect-8 c = search needs
-
-connect-requires-2 : tie.Need-connect-requires-2
-connect-requires-2 c κs =
-    let d = c .before .before .before .before .before in
-    let a = start d .args in (
-      arcs-of (a .heads .now) (a .tails .now),
-      for-turned (a .zones) (a .tails .now) (a .heads .now) (a .work .now) (start d .pre)
-          (d .survey .last .1 .1 .1 .0) (d .survey .result) (d .survey .ensures) (c .before .before .if1 .left)
-          (c .before .if2 .left),
-    )
-
-same-length-3 : tie.Need-same-length-3
-same-length-3 c = search needs
-
-returns-3 : tie.Need-returns-3
-returns-3 c =
-    let f = c .before .before in
-    let e = f .before .before in
-    let d = e .before .before .before .before in
-    let a = start d .args in
-    let able =
-    for-turned (a .zones) (a .tails .now) (a .heads .now) (a .work .now) (start d .pre) (d .survey .last .1 .1 .1 .0)
-    (d .survey .result) (d .survey .ensures) (e .before .if1 .left) (e .if2 .left)
-    in
-    laid-turned (a .zones) (a .tails .now) (a .heads .now) (a .work .now) (start d .pre) (d .survey .last .1 .1 .1 .0)
-    (d .survey .result) (d .survey .ensures) (e .before .if1 .left) (e .if2 .left)
-    (f .connect2 .last .0) (f .connect2 .result) (f .connect2 .ensures (arcs-of (a .heads .now) (a .tails .now)) able)
+    let f = c .before .before .before in
+    let x = runs (f .before .before) in
+    rw (c .layout-of2 .ensures)
+    (x .1 .laid (f .connect .last .0) (f .connect .result) (f .connect .ensures (x .0) (x .1 .able)))
 
 pub lay-spec : {M : Type 1} → statement M
 lay-spec =
@@ -146,24 +95,11 @@ lay-spec =
     survey-requires
     add-if1
     add-if1-2
+    layout-of-requires
     same-length
     returns
-    mul-connect
-    mul-connect-2
-    add-connect
-    mul-connect-3
-    mul-connect-4
+    side-of-requires
     connect-requires
+    layout-of-requires-2
     same-length-2
-    returns-2
-    mul-connect-5
-    add-connect-2
-    add-connect-3
-    mul-connect-6
-    add-connect-4
-    add-connect-5
-    mul-connect-7
-    mul-connect-8
-    connect-requires-2
-    same-length-3
-    returns-3)
+    returns-2)
