@@ -1,47 +1,19 @@
 -- The bytes of a network, and lists of bytes with others put into them.
---   number-long, number-short   a number has at least one byte, and at most three
 --   sets-append           bytes put in, and others after them;   sets-whole   bytes put in at the start
---   rest-bytes i ts hs    the bytes of the arcs from index i on, with rest-cons, rest-turn and rest-none
+--   rest-bytes i ts hs    the bytes of the arcs from index i on, with rest-cons, rest-length, rest-turn and rest-none
 -- Assumes nothing.
-use Prim.Native.Nat.{ℕ, suc, _+_, _/_, _%_, _≤_, _<_}
+use Prim.Native.Nat.{ℕ, suc, _+_, _≤_, _<_}
 use native.Mathlib.Nat.{zero-add, add-zero}
 use native.Mathlib.Numerals.{add-one}
 use native.Mathlib.Omega.{arith}
 use mathlib.Core.Path.{_≡_, _∙_}
 use mathlib.Core.List.{List, [], _∷_, _++_, append-assoc, zipWith}
-use mathlib.Core.Bool.{Bool, true, false, cond}
-use lib.Dec.{ltb}
 use lib.ListN.{length, getD, set, drop, length-append, drop-of-length-le}
 use lib.Seq.{drop-cons, sets, sets-eq}
-use borrow.Author.Tests.{lt-ltb, le-ltb}
 use Rattle.rules.specs.Lists.{over}
 use Rattle.rules.specs.Number.{number-bytes}
 use Rattle.rules.specs.File.{arc-bytes, arcs-bytes}
 use Rattle.rules.specs.Calls.{arcs-of}
-
--- A property of a length that holds of one, two and three holds of the length of a number.
-number-sizes : (P : ℕ → Type 0) → P 1 → P 2 → P 3 → (n : ℕ) → P (length (number-bytes n))
-unfolding number-bytes
-number-sizes P one two three n = go (ltb n 128) (ltb n 16384)
-  where
-    short : List ℕ
-    short = (128 + n % 128) ∷ (n / 128) ∷ []
-
-    long : List ℕ
-    long = (128 + n % 128) ∷ (128 + n / 128 % 128) ∷ (n / 16384) ∷ []
-
-    go : (a b : Bool) → P (length (cond a (n ∷ []) (cond b short long)))
-    go true b = one
-    go false true = two
-    go false false = three
-
--- A number has at least one byte.
-pub number-long : (n : ℕ) → 1 ≤ length (number-bytes n)
-number-long n = number-sizes (λ (k : ℕ). 1 ≤ k) (omega arith) (omega arith) (omega arith) n
-
--- A number has at most three bytes.
-pub number-short : (n : ℕ) → length (number-bytes n) ≤ 3
-number-short n = number-sizes (λ (k : ℕ). k ≤ 3) (omega arith) (omega arith) (omega arith) n
 
 -- Bytes put in, and others after them.
 pub sets-append : (l : List ℕ) (i : ℕ) (xs ys : List ℕ) → sets l i (xs ++ ys) ≡ sets (sets l i xs) (i + length xs) ys

@@ -4,10 +4,10 @@
 --   trouble-stays, trouble-room, trouble-none   the first trouble: of the network, then of the room
 --   write-bad, write-done    the answer, and the list that it leaves
 -- Assumes nothing.
-use Prim.Native.Nat.{ℕ, suc, _+_, _*_, _≤_, _<_}
+use Prim.Native.Nat.{ℕ, _+_, _*_, _≤_, _<_}
 use native.Mathlib.Omega.{arith}
-use mathlib.Core.Path.{_≡_, refl, sym, ap, _∙_}
-use mathlib.Core.List.{List, [], _∷_, _++_, zipWith}
+use mathlib.Core.Path.{_≡_, sym, _∙_}
+use mathlib.Core.List.{List, [], _∷_, _++_}
 use mathlib.Core.Option.{none, some}
 use lib.ListN.{length, length-append}
 use lib.Seq.{sets}
@@ -22,17 +22,18 @@ use Rattle.rules.specs.Calls.{write-leaves-file}
 use Rattle.rules.specs.declared.Trouble.{Trouble}
 use Rattle.rules.specs.declared.WriteAnswer.{WriteAnswer}
 use Rattle.theory.proofs.Ground.ArcLists.{arcs-length}
+use Rattle.theory.proofs.Files.NumberLaws.{length-bounds}
 use Rattle.tests.proofs.Troubles.{first-trouble-after, first-trouble-stays}
 use Rattle.netfile.specs.Promises.{Write-promise}
-use Rattle.netfile.proofs.Bytes.{number-short, sets-append, sets-whole}
+use Rattle.netfile.proofs.Bytes.{sets-append, sets-whole}
 
 -- An arc is written as at most six bytes.
 pub arcs-short : (es : List Arc) → length (arcs-bytes es) ≤ 6 * length es
 unfolding arcs-bytes arc-bytes
 arcs-short [] = omega arith
 arcs-short (e ∷ es) =
-    let t = number-short (e .tail) in
-    let h = number-short (e .head) in
+    let t = length-bounds (e .tail) in
+    let h = length-bounds (e .head) in
     let r = arcs-short es in
     simp length-append (omega arith)
 

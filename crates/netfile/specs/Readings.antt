@@ -1,5 +1,5 @@
 -- What the parts of the reader say, in the words of the rules.
---   number-reading r, arc-reading r   what an answer of the code says: a value and the place after it, or the refusal
+--   arc-reading r        what an answer of the code says: an arc and the place after it, or the refusal
 --   zones-at, count-at   the zone count of a file, and its arc count with room for a tails and b heads
 --   Accepted r           a reading that finds something
 --   Scanned a r          the answer a of the pass that tests says where the reading r ends, or its refusal
@@ -14,14 +14,8 @@ use Rattle.rules.specs.Network.{Arc, _⟶_}
 use Rattle.rules.specs.Answers.{trouble-refusal}
 use Rattle.rules.specs.Number.{Reading, got, bad, then, refusal, unless, number-at}
 use Rattle.rules.specs.File.{zones-bad, arcs-bad}
-use Rattle.netfile.specs.declared.number.NumberRead.{NumberRead}
 use Rattle.netfile.specs.declared.arcs.ArcRead.{ArcRead}
 use Rattle.netfile.specs.declared.arcs.ScanRead.{ScanRead}
-
--- a number and the place after it, or the refusal
-abbrev pub number-reading : NumberRead → Reading ℕ
-number-reading (NumberRead.Number v c) = got v (c .at)
-number-reading (NumberRead.Refused t) = bad (trouble-refusal t)
 
 -- an arc and the place after it, or the refusal
 abbrev pub arc-reading : ArcRead → Reading Arc

@@ -1,9 +1,10 @@
 // The arcs of a network file: one arc, and the pass over all of them that only tests.
 ghost use mathlib.Core.Path.{_≡_};
 ghost use Rattle.rules.specs.File.{zone-at, arc-at, arcs-at};
-ghost use Rattle.netfile.specs.Readings.{number-reading, arc-reading, Scanned};
-use super::number::Cursor;
-use super::number::NumberRead;
+ghost use Rattle.numbers.specs.Readings.{number-reading};
+ghost use Rattle.netfile.specs.Readings.{arc-reading, Scanned};
+use numbers::Cursor;
+use numbers::NumberRead;
 use rules::Kind;
 use rules::Trouble;
 

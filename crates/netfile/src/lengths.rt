@@ -1,23 +1,10 @@
-// How many bytes a network is written as.
+// How many bytes the arcs of a network are written as.
 ghost use mathlib.Core.Path.{_≡_};
 ghost use Prim.Native.Nat.{_≤_};
 ghost use lib.ListN.{length};
-ghost use Rattle.rules.specs.Number.{number-bytes};
 ghost use Rattle.rules.specs.File.{arcs-bytes};
 ghost use Rattle.rules.specs.Calls.{arcs-of};
-
-// How many bytes a number is written as.
-pub fn number_length(n: usize) -> usize
-    ensures { λ r. ⌜ r ≡ length (number-bytes n) ⌝ }
-{
-    if n < 128 {
-        return 1;
-    }
-    if n < 16384 {
-        return 2;
-    }
-    3
-}
+use numbers::number_length;
 
 // How many bytes the arcs are written as.
 pub fn arcs_length(tails: &[u16], heads: &[u16]) -> usize

@@ -1,14 +1,12 @@
-// Network files: reading and writing them.
-//   number     a number of a file, read at a cursor
+// Network files: reading and writing them. Their numbers are a crate of their own, `numbers`.
 //   arcs       an arc of a file, and the pass over all arcs that only tests
 //   storing    the pass over the arcs of an accepted file that stores them
 //   reading    reading a whole file
-//   lengths    how many bytes a network is written as
+//   lengths    how many bytes the arcs are written as
 //   putting    the bytes of a network, put into a lent list
 //   writing    writing a whole file
 mod arcs;
 mod lengths;
-pub mod number;
 mod putting;
 mod reading;
 mod storing;

@@ -1,12 +1,11 @@
 // The pass over the arcs of an accepted file that stores them.
-ghost use mathlib.Core.Path.{_≡_};
 ghost use Prim.Native.Nat.{_≤_};
 ghost use lib.ListN.{length};
 ghost use Rattle.rules.specs.File.{arcs-at};
 ghost use Rattle.netfile.specs.Readings.{Accepted, Stored};
 use super::arcs::ArcRead;
 use super::arcs::arc;
-use super::number::Cursor;
+use numbers::Cursor;
 
 // Puts the tail and the head of each arc into the two lists.
 pub fn store(

@@ -1,8 +1,8 @@
 // Writing a network file.
 ghost use Rattle.netfile.specs.Promises.{Write-promise};
 use super::lengths::arcs_length;
-use super::lengths::number_length;
 use super::putting::put_file;
+use numbers::number_length;
 use rules::Kind;
 use rules::Trouble;
 use rules::WriteAnswer;

@@ -5,7 +5,8 @@ use native.Mathlib.Omega.{arith}
 use mathlib.Core.Path.{_≡_, ap}
 use lib.ListN.{length, getD}
 use borrow.Author.Needs.{needs}
-use Rattle.netfile.proofs.Bytes.{rest-bytes, rest-length, rest-none, number-short}
+use Rattle.theory.proofs.Files.NumberLaws.{length-bounds}
+use Rattle.netfile.proofs.Bytes.{rest-bytes, rest-length, rest-none}
 use Rattle.netfile.proofs.lengths.arcs_length.Statement.{statement}
 use Rattle.netfile.proofs.lengths.arcs_length.Tie as tie
 
@@ -49,13 +50,13 @@ add-total : tie.Need-add-total Inv-loop μ-loop
 add-total c =
     let a = c .before .before .before .before .before .before .before .before .args in
     let i = c .before .before .before .before .before .loop .i in
-    omega (arith, number-short (getD (a .tails .now) i 0), number-short (getD (a .heads .now) i 0))
+    omega (arith, length-bounds (getD (a .tails .now) i 0), length-bounds (getD (a .heads .now) i 0))
 
 add-total-2 : tie.Need-add-total-2 Inv-loop μ-loop
 add-total-2 c =
     let a = c .before .before .before .before .before .before .before .before .args in
     let i = c .before .before .before .before .before .loop .i in
-    omega (arith, number-short (getD (a .tails .now) i 0), number-short (getD (a .heads .now) i 0))
+    omega (arith, length-bounds (getD (a .tails .now) i 0), length-bounds (getD (a .heads .now) i 0))
 
 add-i : tie.Need-add-i Inv-loop μ-loop
 add-i c = search needs
@@ -67,8 +68,8 @@ loop-again : tie.Need-loop-again Inv-loop μ-loop
 loop-again c =
     let a = c .before .before .before .before .before .before .before .before .args in
     let i = c .before .before .before .before .before .loop .i in
-    let t = number-short (getD (a .tails .now) i 0) in
-    let h = number-short (getD (a .heads .now) i 0) in
+    let t = length-bounds (getD (a .tails .now) i 0) in
+    let h = length-bounds (getD (a .heads .now) i 0) in
     let e = rest-length i (a .tails .now) (a .heads .now) (omega arith) (omega arith) in
     (search needs, omega arith, omega arith)
 

@@ -5,7 +5,7 @@ use lib.ListN.{length}
 use borrow.Author.Needs.{needs}
 use Rattle.netfile.proofs.Wholes.{put-bad, promise}
 use Rattle.netfile.proofs.Wholes.{file-bad, file-got, counted-bad, counted-got, zones-few, count-fits}
-use Rattle.netfile.specs.Readings.{number-reading}
+use Rattle.numbers.specs.Readings.{number-reading}
 use Rattle.netfile.proofs.reading.read.Statement.{statement}
 use Rattle.netfile.proofs.reading.read.Tie as tie
 

@@ -5,10 +5,10 @@ use mathlib.Core.Path.{sym, ap, _∙_}
 use lib.ListN.{length}
 use borrow.Author.Needs.{needs}
 use Rattle.theory.proofs.Ground.ArcLists.{arcs-length}
+use Rattle.theory.proofs.Files.NumberLaws.{length-bounds}
 use Rattle.netfile.proofs.Writes.{write-bad, write-done}
 use Rattle.netfile.proofs.Writes.{arcs-short, written-length}
 use Rattle.netfile.proofs.Writes.{trouble-stays, trouble-room, trouble-none}
-use Rattle.netfile.proofs.Bytes.{number-short}
 use Rattle.tests.proofs.Fine.{fine}
 use Rattle.tests.specs.Tested.{tested-trouble}
 use Rattle.rules.specs.Calls.{arcs-of}
@@ -40,7 +40,7 @@ number-length-requires-2 c κs = search needs
 add-counts : tie.Need-add-counts
 add-counts c =
     let a = c .before .before .before .before .before .before .before .before .args in
-    omega (arith, number-short (a .zones), number-short (length (a .tails .now)))
+    omega (arith, length-bounds (a .zones), length-bounds (length (a .tails .now)))
 
 arcs-length-requires : tie.Need-arcs-length-requires
 arcs-length-requires c κs =
@@ -58,8 +58,8 @@ add-length c =
     let f = fine (a .zones) (a .tails .now) (a .heads .now) e in
     omega (
       arith,
-      number-short (a .zones),
-      number-short (length (a .tails .now)),
+      length-bounds (a .zones),
+      length-bounds (length (a .tails .now)),
       arcs-short (arcs-of (a .tails .now) (a .heads .now)),
       arcs-length (a .tails .now) (a .heads .now) (f .paired),
     )

@@ -6,9 +6,9 @@ use lib.ListN.{getD}
 use borrow.Author.Tests.{le-leb, lt-leb, lt-ltb, le-ltb}
 use borrow.Author.Needs.{needs}
 use Rattle.rules.specs.Number.{number-at}
-use Rattle.netfile.specs.Readings.{number-reading}
-use Rattle.netfile.proofs.number.Cursor.number.Statement.{statement}
-use Rattle.netfile.proofs.number.Cursor.number.Tie as tie
+use Rattle.numbers.specs.Readings.{number-reading}
+use Rattle.numbers.proofs.Cursor.number.Statement.{statement}
+use Rattle.numbers.proofs.Cursor.number.Tie as tie
 
 refused-requires : tie.Need-refused-requires
 refused-requires c κs = search needs

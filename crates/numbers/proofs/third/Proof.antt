@@ -1,4 +1,4 @@
--- `number::third` meets its contract: each return is the case of `third-group` that its tests pick. Assumes nothing.
+-- `third` meets its contract: each return is the case of `third-group` that its tests pick. Assumes nothing.
 use Prim.Native.Nat.{ℕ, _+_}
 use native.Mathlib.Omega.{arith}
 use mathlib.Core.Path.{_∙_, ap}
@@ -6,9 +6,9 @@ use lib.ListN.{getD}
 use borrow.Author.Tests.{le-leb, lt-leb, lt-ltb, le-ltb, eq-eqb, ne-eqb}
 use borrow.Author.Needs.{needs}
 use Rattle.rules.specs.Number.{third-group}
-use Rattle.netfile.specs.Readings.{number-reading}
-use Rattle.netfile.proofs.number.third.Statement.{statement}
-use Rattle.netfile.proofs.number.third.Tie as tie
+use Rattle.numbers.specs.Readings.{number-reading}
+use Rattle.numbers.proofs.third.Statement.{statement}
+use Rattle.numbers.proofs.third.Tie as tie
 
 add-here : tie.Need-add-here
 add-here c = search needs

@@ -1,4 +1,4 @@
--- `number::second` meets its contract: each return is the case of `second-group` that its tests pick. Assumes nothing.
+-- `second` meets its contract: each return is the case of `second-group` that its tests pick. Assumes nothing.
 use Prim.Native.Nat.{ℕ, _+_}
 use native.Mathlib.Omega.{arith}
 use mathlib.Core.Path.{_∙_, ap}
@@ -6,9 +6,9 @@ use lib.ListN.{getD}
 use borrow.Author.Tests.{le-leb, lt-leb, lt-ltb, le-ltb, eq-eqb, ne-eqb}
 use borrow.Author.Needs.{needs}
 use Rattle.rules.specs.Number.{second-group}
-use Rattle.netfile.specs.Readings.{number-reading}
-use Rattle.netfile.proofs.number.second.Statement.{statement}
-use Rattle.netfile.proofs.number.second.Tie as tie
+use Rattle.numbers.specs.Readings.{number-reading}
+use Rattle.numbers.proofs.second.Statement.{statement}
+use Rattle.numbers.proofs.second.Tie as tie
 
 add-here : tie.Need-add-here
 add-here c = search needs

@@ -1,22 +1,21 @@
--- `putting::put_number` meets its contract: the stores of each way are the bytes of a number of so many groups.
+-- `put_number` meets its contract: the stores of each way are the bytes of a number of so many groups.
 -- Assumes nothing.
 use Prim.Native.Nat.{suc, _+_}
 use native.Mathlib.Numerals.{add-one}
 use native.Mathlib.Omega.{arith}
 use mathlib.Core.Path.{_≡_}
-use mathlib.Core.Path.{ap}
-use lib.ListN.{length, length-set}
+use lib.ListN.{length-set}
 use borrow.Author.Needs.{needs}
 use Rattle.theory.proofs.Files.NumberLaws.{bytes-one, number-two, number-three}
-use Rattle.netfile.proofs.Bytes.{number-long}
-use Rattle.netfile.proofs.putting.put_number.Statement.{statement}
-use Rattle.netfile.proofs.putting.put_number.Tie as tie
+use Rattle.theory.proofs.Files.NumberLaws.{length-one, length-two, length-three, length-bounds}
+use Rattle.numbers.proofs.put_number.Statement.{statement}
+use Rattle.numbers.proofs.put_number.Tie as tie
 
 cast-file : tie.Need-cast-file
 cast-file c = search needs
 
 slice-write-file : tie.Need-slice-write-file
-slice-write-file c = omega (arith, ap length (bytes-one (c .before .args .n) (omega arith)))
+slice-write-file c = omega (arith, length-one (c .before .args .n) (omega arith))
 
 add-result : tie.Need-add-result
 add-result c = search needs
@@ -36,7 +35,7 @@ cast-file-2 : tie.Need-cast-file-2
 cast-file-2 c = search needs
 
 slice-write-file-2 : tie.Need-slice-write-file-2
-slice-write-file-2 c = omega (arith, number-long (c .before .args .n))
+slice-write-file-2 c = omega (arith, length-bounds (c .before .args .n))
 
 cast-file-3 : tie.Need-cast-file-3
 cast-file-3 c = search needs
@@ -46,8 +45,7 @@ add-file-2 c = search needs
 
 slice-write-file-3 : tie.Need-slice-write-file-3
 slice-write-file-3 c =
-    simp length-set
-    (omega (arith, ap length (number-two (c .before .before .args .n) (omega arith) (omega arith))))
+    simp length-set (omega (arith, length-two (c .before .before .args .n) (omega arith) (omega arith)))
 
 add-result-2 : tie.Need-add-result-2
 add-result-2 c = search needs
@@ -71,8 +69,7 @@ add-file-4 c = search needs
 
 slice-write-file-4 : tie.Need-slice-write-file-4
 slice-write-file-4 c =
-    simp length-set
-    (omega (arith, ap length (number-three (c .before .before .args .n) (omega arith))))
+    simp length-set (omega (arith, length-three (c .before .before .args .n) (omega arith)))
 
 cast-file-5 : tie.Need-cast-file-5
 cast-file-5 c = search needs
@@ -82,8 +79,7 @@ add-file-5 c = search needs
 
 slice-write-file-5 : tie.Need-slice-write-file-5
 slice-write-file-5 c =
-    simp length-set
-    (omega (arith, ap length (number-three (c .before .before .args .n) (omega arith))))
+    simp length-set (omega (arith, length-three (c .before .before .args .n) (omega arith)))
 
 add-result-3 : tie.Need-add-result-3
 add-result-3 c = search needs

@@ -1,0 +1,2 @@
+-- What the contracts of the numbers cite.
+pub mod Readings
