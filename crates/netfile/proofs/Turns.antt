@@ -15,7 +15,7 @@ use Rattle.rules.specs.Answers.{Refusal}
 use Rattle.rules.specs.Network.{Arc}
 use Rattle.rules.specs.Number.{Reading, got, bad, then, number-at}
 use Rattle.rules.specs.File.{zone-at, arc-at, arcs-at}
-use Rattle.netfile.proofs.Thens.{then-got, unless-got}
+use Rattle.theory.proofs.Files.Readings.{then-got, unless-got}
 
 -- A reading of arcs, with the arcs that were found before it.
 abbrev pub ahead : List Arc → Reading (List Arc) → Reading (List Arc)
@@ -58,8 +58,8 @@ module _ (s : List ℕ) (n m k at : ℕ) where
 zone-below : (s : List ℕ) (n at z next : ℕ) → zone-at s n at ≡ got z next → z < n
 unfolding zone-at
 zone-below s n at z next e =
-    let p = then-got (number-at s at) _ z next e in
-    let q = unless-got (leb n (p .0)) _ _ z next (p .3) in
+    let p = then-got (number-at s at) _ e in
+    let q = unless-got (leb n (p .0)) _ _ (p .3) in
     let w : p .0 ≡ z = cc in
     rw w at (leb-false n (p .0) (q .0))
 
@@ -68,9 +68,9 @@ pub arc-zones : (s : List ℕ) (n at : ℕ) (e : Arc) (next : ℕ) → arc-at s 
     → (e .tail < n) × (e .head < n)
 unfolding arc-at
 arc-zones s n at e next q =
-    let p = then-got (zone-at s n at) _ e next q in
-    let p' = then-got (zone-at s n (p .1)) _ e next (p .3) in
-    let u = unless-got (eqb (p .0) (p' .0)) _ _ e next (p' .3) in
+    let p = then-got (zone-at s n at) _ q in
+    let p' = then-got (zone-at s n (p .1)) _ (p .3) in
+    let u = unless-got (eqb (p .0) (p' .0)) _ _ (p' .3) in
     let t : p .0 ≡ e .tail = cc in
     let h : p' .0 ≡ e .head = cc in
     (rw t at (zone-below s n at (p .0) (p .1) (p .2)), rw h at (zone-below s n (p .1) (p' .0) (p' .1) (p' .2)))

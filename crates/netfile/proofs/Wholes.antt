@@ -24,7 +24,8 @@ use Rattle.rules.specs.declared.ReadAnswer.{ReadAnswer}
 use Rattle.theory.proofs.Ground.Bools.{or-false}
 use Rattle.netfile.specs.Readings.{zones-at, count-at}
 use Rattle.netfile.specs.Promises.{Put, Read-promise}
-use Rattle.netfile.proofs.Thens.{then-got, unless-got, unless-then, then-agree}
+use Rattle.theory.proofs.Files.Readings.{then-got, unless-got}
+use Rattle.netfile.proofs.Thens.{unless-then, then-agree}
 
 module _ (s : List ℕ) where
   -- As many arcs are found as are asked.
@@ -32,8 +33,8 @@ module _ (s : List ℕ) where
   unfolding arcs-at
   arcs-count n zero at es end e = let q : [] ≡ es = cc in rw (← q)
   arcs-count n (suc m) at es end e =
-      let p = then-got (arc-at s n at) _ es end e in
-      let q = then-got (arcs-at s n m (p .1)) _ es end (p .3) in
+      let p = then-got (arc-at s n at) _ e in
+      let q = then-got (arcs-at s n m (p .1)) _ (p .3) in
       let w : p .0 ∷ q .0 ≡ es = cc in
       rw (← w) (ap suc (arcs-count n m (p .1) (q .0) (q .1) (q .2)))
 
@@ -58,8 +59,8 @@ module _ (s : List ℕ) where
   pub zones-few : (n next : ℕ) → zones-at s ≡ got n next → n ≤ 1024
   unfolding zones-at
   zones-few n next e =
-      let p = then-got (number-at s 0) _ n next e in
-      let q = unless-got (zones-bad (p .0)) _ _ n next (p .3) in
+      let p = then-got (number-at s 0) _ e in
+      let q = unless-got (zones-bad (p .0)) _ _ (p .3) in
       let w : p .0 ≡ n = cc in
       rw w at (ltb-false 1024 (p .0) (or-false (eqb (p .0) 0) (ltb 1024 (p .0)) (q .0) .1))
 
@@ -68,9 +69,9 @@ module _ (s : List ℕ) where
     pub count-fits : (at m next : ℕ) → count-at s a b at ≡ got m next → (m ≤ a) × (m ≤ b)
     unfolding count-at
     count-fits at m next e =
-        let p = then-got (number-at s at) _ m next e in
-        let q = unless-got (arcs-bad (p .0)) _ _ m next (p .3) in
-        let r = unless-got (ltb a (p .0) || ltb b (p .0)) _ _ m next (q .1) in
+        let p = then-got (number-at s at) _ e in
+        let q = unless-got (arcs-bad (p .0)) _ _ (p .3) in
+        let r = unless-got (ltb a (p .0) || ltb b (p .0)) _ _ (q .1) in
         let w : p .0 ≡ m = cc in
         let f = or-false (ltb a (p .0)) (ltb b (p .0)) (r .0) in
         (rw w at (ltb-false a (p .0) (f .0)), rw w at (ltb-false b (p .0) (f .1)))

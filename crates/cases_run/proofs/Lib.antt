@@ -1,0 +1,3 @@
+-- A local array that is lent for a call, and the calls of the walk by hand.
+pub mod LocalArray
+pub mod AskSteps
