@@ -19,7 +19,7 @@ use Rattle.rows.proofs.ArcRows.{arcs-turned, between-turned}
 use Rattle.rows.proofs.ArrangedLaws.{arranged-sound, arranged-fits, arranged-entry, entry-arranged, reach-run}
 use Rattle.order.specs.Memory.{cell, Ready, Kept, Finished}
 use Rattle.rows.proofs.Regions.{at-kept, at-below}
-use Rattle.order.proofs.Regions.{take-on, drop-on}
+use Rattle.rows.proofs.Places.{take-shorter, drop-deeper}
 use Rattle.theory.proofs.Ground.ArcLists.{arcs-length}
 use Rattle.theory.proofs.Reaching.Components.{name-is-name, names-zone, names-distinct}
 use Rattle.theory.proofs.Ground.Ascending.{run-in}
@@ -80,7 +80,7 @@ module _ {w : List ℕ} {n m : ℕ} {ts hs : List ℕ} (I : Lent w n m ts hs) wh
       (F : Finished w₁ n (12 * n) (13 * n + 1) (9 * n) (11 * n)) where
     -- The turned rows are kept.
     turned-same : drop (13 * n + 1 + m) w₁ ≡ drop (13 * n + 1 + m) w
-    turned-same = drop-on w w₁ (12 * n) (13 * n + 1 + m) (omega arith) (K .back)
+    turned-same = drop-deeper w w₁ (12 * n) (13 * n + 1 + m) (omega arith) (K .back)
 
     -- The memory is laid for the second pass.
     pub for-laid : Laid w₁ n (13 * n + 1 + m) (14 * n + 2 + m) (7 * n) (8 * n)
@@ -237,12 +237,12 @@ module _ {w : List ℕ} {n m : ℕ} {ts hs : List ℕ} (I : Lent w n m ts hs) wh
           done = record {
             long = L .long ∙ N .long ∙ C .rest .long ∙ K .long;
             front = L .front
-                ∙ take-on w₂ w₃ (4 * n) (5 * n) (omega arith) (N .front)
-                ∙ take-on w₁ w₂ (4 * n) (7 * n) (omega arith) (C .rest .front)
-                ∙ take-on w w₁ (4 * n) (9 * n) (omega arith) (K .front);
-            back = drop-on w₃ w₄ (5 * n) (12 * n) (omega arith) (L .back)
-                ∙ drop-on w₂ w₃ (7 * n) (12 * n) (omega arith) (N .back)
-                ∙ drop-on w₁ w₂ (8 * n + n) (12 * n) (omega arith) (C .rest .back)
+                ∙ take-shorter w₂ w₃ (4 * n) (5 * n) (omega arith) (N .front)
+                ∙ take-shorter w₁ w₂ (4 * n) (7 * n) (omega arith) (C .rest .front)
+                ∙ take-shorter w w₁ (4 * n) (9 * n) (omega arith) (K .front);
+            back = drop-deeper w₃ w₄ (5 * n) (12 * n) (omega arith) (L .back)
+                ∙ drop-deeper w₂ w₃ (7 * n) (12 * n) (omega arith) (N .back)
+                ∙ drop-deeper w₁ w₂ (8 * n + n) (12 * n) (omega arith) (C .rest .back)
                 ∙ K .back;
             named = λ v l. names-same v ∙ named-name v l;
             count = listed-count (cell w₄ (4 * n)) k (names (network-of n (arcs-of ts hs)))

@@ -12,14 +12,15 @@ use lib.ListN.{length, getD}
 use Rattle.rules.specs.Network.{Network, _⟶_, Proper}
 use Rattle.rules.specs.Components.{name}
 use Rattle.rules.specs.Calls.{handed}
-use Rattle.tests.proofs.Fine.{arcs-index, index-arcs}
+use Rattle.theory.proofs.Ground.ArcLists.{index-arcs}
+use Rattle.tests.proofs.Fine.{arcs-index}
 use Rattle.theory.proofs.Reaching.Components.{Together, together-zone, name-together, name-name, name-agree}
 use Rattle.theory.proofs.Skeletons.SkeletonLaws.{Joined, crosses-true, true-crosses}
 use Rattle.theory.proofs.Skeletons.SkeletonOrder.{Direct, Chosen, direct-zone, chosen-crosses, crosses-chosen}
 use Rattle.rows.specs.Marks.{Marked}
 use Rattle.rows.proofs.Regions.{at-below, at-kept}
 use Rattle.search.specs.Marking.{Clear}
-use Rattle.search.proofs.Keeping.{drop-deeper}
+use Rattle.rows.proofs.Places.{drop-deeper}
 use Rattle.crossings.specs.Named.{name-at, top-at, Named, Crossed}
 use Rattle.crossings.specs.Direct.{Led, Directable, Directed}
 use Rattle.crossings.specs.Choosing.{Picked, Choosable, Choosing}

@@ -20,7 +20,7 @@ use Rattle.rows.specs.Work.{starts-at, rows-at}
 use Rattle.rows.proofs.ArrangedLaws.{arranged-kept, run-reach, reach-run}
 use Rattle.rows.proofs.Regions.{at-kept}
 use Rattle.search.specs.Marking.{Laid}
-use Rattle.search.proofs.Keeping.{drop-deeper}
+use Rattle.rows.proofs.Places.{drop-deeper}
 use Rattle.search.proofs.Laying.{arranged-laid}
 use Rattle.network.proofs.Memory.{arcs-within}
 use Rattle.crossings.specs.Named.{name-at, top-at, Named}

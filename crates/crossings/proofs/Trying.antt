@@ -16,7 +16,7 @@ use Rattle.rows.specs.Work.{starts-at, rows-at}
 use Rattle.rows.proofs.Zeros.{below?}
 use Rattle.rows.proofs.Regions.{at-kept}
 use Rattle.search.specs.Marking.{Closed, Searchable, Searched}
-use Rattle.search.proofs.Keeping.{drop-deeper}
+use Rattle.rows.proofs.Places.{drop-deeper}
 use Rattle.search.proofs.Closed.{closed-run, clear-closed}
 use Rattle.search.proofs.Course.{laid-same}
 use Rattle.crossings.specs.Named.{top-at}

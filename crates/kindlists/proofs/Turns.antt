@@ -16,8 +16,9 @@ use lib.ListN.{length, getD, set, length-append}
 use lib.Seq.{sets, length-sets}
 use Rattle.rules.specs.Lists.{run, keep}
 use Rattle.rules.specs.Answers.{yes-number}
+use Rattle.theory.proofs.Ground.Storing.{sets-append}
 use Rattle.rows.specs.Storing.{Stored}
-use Rattle.rows.proofs.Stores.{sets-append, getD-sets-low, getD-sets-high}
+use Rattle.rows.proofs.Stores.{getD-sets-low, getD-sets-high}
 use Rattle.order.specs.Memory.{cell}
 use Rattle.theory.proofs.Ground.Bools.{bool-cases}
 use Rattle.theory.proofs.Ground.Lists.{keep-hit, keep-miss, keep-agree}

@@ -24,15 +24,6 @@ use Rattle.rows.proofs.Regions.{at-kept}
 use Rattle.kinds.specs.Kinds.{comes, goes, raised, Around, Room, Noted, Marking, Markable}
 use Rattle.kinds.proofs.Tests.{raised-one}
 
--- An arc of a tail list and a head list.
-pub arc-in : (ts hs : List ℕ) (i : ℕ) → i < length ts → i < length hs
-    → In (getD ts i 0 ⟶ getD hs i 0) (arcs-of ts hs)
-unfolding arcs-of zipWith
-arc-in [] hs i l k = absurd (not-suc-le-zero l)
-arc-in (t ∷ ts) [] i l k = absurd (not-suc-le-zero k)
-arc-in (t ∷ ts) (h ∷ hs) zero l k = List·Memᴰ·head refl
-arc-in (t ∷ ts) (h ∷ hs) (suc i) l k = List·Memᴰ·tail (arc-in ts hs i (omega arith) (omega arith))
-
 -- Names are kept.
 pub names-around : {w w' : List ℕ} {n : ℕ} → Around w w' n → (v : ℕ) → cell w' (5 * n) v ≡ cell w (5 * n) v
 names-around {w} {w'} {n} A v = at-kept w w' (4 * n) (5 * n + v) (omega arith) (A .back)

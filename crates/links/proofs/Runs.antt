@@ -13,9 +13,10 @@ use native.Mathlib.Omega.{arith}
 use lib.ListN.{length, getD, set, drop, replicate, length-replicate, replicate-append-replicate}
 use lib.Seq.{sets, sets-eq, length-sets}
 use Rattle.rules.specs.Lists.{over}
+use Rattle.theory.proofs.Ground.Storing.{sets-append}
 use Rattle.rows.specs.Regions.{part}
 use Rattle.rows.proofs.Regions.{part-long, part-more}
-use Rattle.rows.proofs.Stores.{sets-append, getD-sets-high}
+use Rattle.rows.proofs.Stores.{getD-sets-high}
 use Rattle.links.specs.Stores.{Copied}
 
 -- stores from index 0 on leave the result, and past it what was there

@@ -1,5 +1,4 @@
 -- The bytes of a network, and lists of bytes with others put into them.
---   sets-append           bytes put in, and others after them;   sets-whole   bytes put in at the start
 --   rest-bytes i ts hs    the bytes of the arcs from index i on, with rest-cons, rest-length, rest-turn and rest-none
 -- Assumes nothing.
 use Prim.Native.Nat.{ℕ, suc, _+_, _≤_, _<_}
@@ -14,17 +13,7 @@ use Rattle.rules.specs.Lists.{over}
 use Rattle.rules.specs.Number.{number-bytes}
 use Rattle.rules.specs.File.{arc-bytes, arcs-bytes}
 use Rattle.rules.specs.Calls.{arcs-of}
-
--- Bytes put in, and others after them.
-pub sets-append : (l : List ℕ) (i : ℕ) (xs ys : List ℕ) → sets l i (xs ++ ys) ≡ sets (sets l i xs) (i + length xs) ys
-sets-append l i [] ys = rw (add-zero i)
-sets-append l i (x ∷ xs) ys =
-    let e : suc i + length xs ≡ i + suc (length xs) = omega arith in
-    sets-append (set l i x) (suc i) xs ys ∙ rw e
-
--- Bytes put in at the start.
-pub sets-whole : (l vs : List ℕ) → length vs ≤ length l → sets l 0 vs ≡ over vs l
-sets-whole l vs h = sets-eq vs l 0 (rw (zero-add (length vs)) h) ∙ rw (zero-add (length vs))
+use Rattle.theory.proofs.Ground.Storing.{sets-append}
 
 -- The bytes of the arcs from index i on.
 abbrev pub rest-bytes : ℕ → List ℕ → List ℕ → List ℕ

@@ -23,9 +23,9 @@ use Rattle.rules.specs.declared.Trouble.{Trouble}
 use Rattle.rules.specs.declared.WriteAnswer.{WriteAnswer}
 use Rattle.theory.proofs.Ground.ArcLists.{arcs-length}
 use Rattle.theory.proofs.Files.NumberLaws.{length-bounds}
+use Rattle.theory.proofs.Ground.Storing.{sets-append, sets-whole}
 use Rattle.tests.proofs.Troubles.{first-trouble-after, first-trouble-stays}
 use Rattle.netfile.specs.Promises.{Write-promise}
-use Rattle.netfile.proofs.Bytes.{sets-append, sets-whole}
 
 -- An arc is written as at most six bytes.
 pub arcs-short : (es : List Arc) → length (arcs-bytes es) ≤ 6 * length es

@@ -15,7 +15,7 @@ use Rattle.rows.specs.Marks.{zeros, Marked, First-in}
 use Rattle.rows.specs.declared.Found.the-variants.{At, Nothing}
 use Rattle.rows.proofs.Zeros.{zeros-other, zeros-mark}
 use Rattle.order.specs.Memory.{cell, Ready, State, Kept, Full}
-use Rattle.order.proofs.Regions.{behind}
+use Rattle.rows.proofs.Places.{behind}
 use Rattle.order.proofs.Plain.Push.{deeper}
 
 -- a list after three stores

@@ -1,6 +1,5 @@
 -- Laws of the first pass: over plain functions, and in the memory.
 pub mod Plain
-pub mod Regions
 pub mod Keeping
 pub mod Down
 pub mod Up

@@ -16,7 +16,7 @@ use Rattle.rows.proofs.Zeros.{same?, zeros-other, zeros-mark, zeros-none, zeros
 use Rattle.order.specs.Deep.{Deep}
 use Rattle.order.specs.Memory.{cell, Ready, State, Kept, Finished, Copied}
 use Rattle.rows.proofs.Regions.{at-kept, at-below}
-use Rattle.order.proofs.Regions.{drop-on, take-on}
+use Rattle.rows.proofs.Places.{drop-deeper, take-shorter}
 use Rattle.order.proofs.Keeping.{ready-kept, spans}
 use Rattle.order.proofs.Plain.Push.{push}
 use Rattle.order.proofs.Plain.Pop.{deep-begun, deep-stands}
@@ -61,8 +61,8 @@ module _ {w w' : List ℕ} {zones starts rows marks next order : ℕ} (R : Ready
   pub copy-kept : Kept w w' zones starts marks
   copy-kept = record {
     long = C .long;
-    front = take-on w w' marks next (omega (arith, R .apart)) (C .front);
-    back = drop-on w w' (next + zones) starts (omega (arith, R .before, R .order-before)) (C .back);
+    front = take-shorter w w' marks next (omega (arith, R .apart)) (C .front);
+    back = drop-deeper w w' (next + zones) starts (omega (arith, R .before, R .order-before)) (C .back);
     more = λ v l m. absurd (m (clear v l));
   }
 

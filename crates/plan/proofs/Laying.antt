@@ -25,7 +25,7 @@ use Rattle.rules.specs.Plan.{plan, plan-pairs, plan-need}
 use Rattle.rules.specs.Calls.{arcs-of, handed, asked-work}
 use Rattle.tests.proofs.Fine.{fine-proper}
 use Rattle.rows.specs.Regions.{Holds}
-use Rattle.search.proofs.Keeping.{drop-deeper}
+use Rattle.rows.proofs.Places.{drop-deeper}
 use Rattle.theory.proofs.Ground.ArcLists.{arcs-length}
 use Rattle.theory.proofs.Ground.Bools.{bool-cases}
 use Rattle.theory.proofs.Ground.Ascending.{in-run}

@@ -7,3 +7,4 @@ pub mod RowLaws
 pub mod ArrangeLaws
 pub mod ArrangedLaws
 pub mod Regions
+pub mod Places

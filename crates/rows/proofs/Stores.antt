@@ -1,5 +1,4 @@
 -- What a run of stores, `sets w at vs`, leaves: vs from `at` on, and everything else as it was.
---   sets-append    storing a list and then another behind it is storing the two joined
 --   sets-set       a store below the run may come before it or after it
 --   take-sets, drop-sets, getD-sets-low, getD-sets-high   what lies before and behind the run is kept
 --   drop-sets-at, getD-sets-at            what stands where the run stored
@@ -14,16 +13,9 @@ use native.Mathlib.Omega.{arith}
 use lib.ListN.{length, getD, take, drop, set, List·getD-append}
 use lib.Seq.{sets, sets-eq, set-comm, take-set-le, drop-set-lt, getD-set-other, length-take-le, drop-at, getD-drop}
 use lib.Seq.{take-append-seam}
+use Rattle.theory.proofs.Ground.Storing.{sets-append}
 use Rattle.rows.specs.Regions.{part, Holds}
 use Rattle.rows.proofs.Regions.{part-below, part-kept, holds-append}
-
--- storing a list and then another behind it is storing the two joined
-pub sets-append : (w : List ℕ) (at : ℕ) (vs us : List ℕ)
-    → sets w at (vs ++ us) ≡ sets (sets w at vs) (at + length vs) us
-sets-append w at [] us = ap (λ (n : ℕ). sets w n us) (omega arith)
-sets-append w at (v ∷ vs) us =
-    sets-append (set w at v) (suc at) vs us
-    ∙ ap (λ (n : ℕ). sets (sets (set w at v) (suc at) vs) n us) (omega arith)
 
 -- storing a list and then one element behind it
 pub sets-more : (w : List ℕ) (at : ℕ) (vs : List ℕ) (x n : ℕ) → n ≡ at + length vs

@@ -1,6 +1,5 @@
 -- What stays where only marks and stack change. `Kept` holds of a store into either, and of one change after another.
 --   kept-same, kept-then, kept-marks, kept-stack     nothing, two changes, a store
---   drop-deeper                                      memories that agree from a place on do so from a later one on
 --   kept-at, kept-rows                               what lies behind the stack is as it was: an element, the rows
 --   head-at, start-at, stop-at                       the rows that stand in w, said of w's elements
 -- Assumes nothing.
@@ -10,6 +9,7 @@ use Prim.Native.Nat.{ℕ, _+_, _-_, _≤_, _<_}
 use native.Mathlib.Omega.{arith}
 use lib.ListN.{getD, take, drop, set, length-set}
 use lib.Seq.{getD-drop, drop-drop, take-set-le, take-set-lt, drop-set-lt}
+use Rattle.rows.proofs.Places.{drop-deeper}
 use Rattle.rows.specs.Rows.{rows-of}
 use Rattle.rows.proofs.Regions.{at-kept}
 use Rattle.search.specs.Marking.{Kept}
@@ -51,12 +51,6 @@ module _ (w : List ℕ) (marks stack n i x : ℕ) (apart : marks + n ≤ stack) 
         between = ap (drop (marks + n)) (take-set-le stack w i x low);
         above = drop-set-lt (stack + n) w i x high;
       }
-
--- memories that agree from a place on agree from any later place on
-pub drop-deeper : (w w' : List ℕ) (a b : ℕ) → a ≤ b → drop a w' ≡ drop a w → drop b w' ≡ drop b w
-drop-deeper w w' a b h same =
-    let e : b ≡ a + (b - a) = omega arith in
-    rw e (sym (drop-drop (b - a) a w') ∙ ap (drop (b - a)) same ∙ drop-drop (b - a) a w)
 
 module _ (w w' : List ℕ) (marks stack n : ℕ) (K : Kept w w' marks stack n) where
   -- an element behind the stack is as it was

@@ -14,10 +14,10 @@ use lib.Seq.{sets, length-sets, sets-eq}
 use borrow.Author.Tests.{eq-eqb, ne-eqb}
 use Rattle.rules.specs.Lists.{run, keep, over}
 use Rattle.rules.specs.Network.{Arc, _⟶_}
+use Rattle.theory.proofs.Ground.Storing.{sets-append, sets-whole}
 use Rattle.theory.proofs.Ground.Bools.{false-not}
 use Rattle.theory.proofs.Ground.Lists.{keep-hit, keep-miss}
 use Rattle.theory.proofs.Skeletons.SkeletonRows.{pair-row, row-more, row-few}
-use Rattle.rows.proofs.Stores.{sets-append}
 use Rattle.skeleton.specs.Putting.{marked-arc, Roomy, Put}
 
 -- a list of values is as long as the list of arcs
@@ -58,20 +58,14 @@ put-long {ts} {hs} {at = at} {es = es} P = (
   ap length (P .heads) ∙ length-sets hs at (map (λ (e : Arc). e .head) es),
 )
 
--- values stored from the first place on lie over what was there
-pub stores-over : (l vs : List ℕ) → length vs ≤ length l → sets l 0 vs ≡ over vs l
-stores-over l vs h =
-    let e : 0 + length vs ≡ length vs = omega arith in
-    rw e at (sets-eq vs l 0 (omega arith))
-
 -- arcs put from the first place on lie over what was there
 pub put-over : (ts hs ts' hs' : List ℕ) (r : ℕ) (es : List Arc) → Roomy ts hs 0 es → Put ts hs ts' hs' 0 es r →
     (ts' ≡ over (map (λ (e : Arc). e .tail) es) ts) × (hs' ≡ over (map (λ (e : Arc). e .head) es) hs)
 put-over ts hs ts' hs' r es R P = (
   P .tails
-      ∙ stores-over ts (map (λ (e : Arc). e .tail) es) (omega (arith, R .tails, map-length (λ (e : Arc). e .tail) es)),
+      ∙ sets-whole ts (map (λ (e : Arc). e .tail) es) (omega (arith, R .tails, map-length (λ (e : Arc). e .tail) es)),
   P .heads
-      ∙ stores-over hs (map (λ (e : Arc). e .head) es) (omega (arith, R .heads, map-length (λ (e : Arc). e .head) es)),
+      ∙ sets-whole hs (map (λ (e : Arc). e .head) es) (omega (arith, R .heads, map-length (λ (e : Arc). e .head) es)),
 )
 
 module _ (w : List ℕ) (n a b : ℕ) where

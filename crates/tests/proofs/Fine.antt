@@ -2,7 +2,7 @@
 --   fine           no trouble: the lists pair up, the counts are within bounds, and every arc joins two distinct zones
 --   fine-proper    such a network is proper: its zones ascend, and its arcs are between zones
 --   fine-arc       an arc of it joins two distinct zones
---   arcs-index, index-arcs   an arc stands at one index of both lists, and what stands so is an arc
+--   arcs-index     an arc stands at one index of both lists
 -- Each test that does not fail is one of the facts; the arcs go one after the other. Assumes nothing.
 use Prim.Native.Nat.{ℕ, zero, suc, _≤_, _<_, zero-le}
 use native.Mathlib.Nat.{le-of-suc-le-suc, not-suc-le-zero, eq-or-lt-of-le}
@@ -85,15 +85,6 @@ arcs-index (t ∷ ts) (h ∷ hs) {a} {b} m =
     (λ (e : (a ⟶ b) ≡ (t ⟶ h)). (0, omega arith, ap (λ (x : Arc). x .tail) (sym e), ap (λ (x : Arc). x .head) (sym e)))
     (λ (m' : In (a ⟶ b) (zipWith _⟶_ ts hs)). let w = arcs-index ts hs m' in (suc (w .0), omega arith, w .2, w .3))
     (List·Memᴰ·cases-cons m)
-
--- What stands at one index of two lists is an arc of them.
-pub index-arcs : (ts hs : List ℕ) (k : ℕ) → k < length ts → k < length hs
-    → In (getD ts k 0 ⟶ getD hs k 0) (arcs-of ts hs)
-unfolding arcs-of zipWith
-index-arcs [] hs k l h = absurd (not-suc-le-zero l)
-index-arcs (t ∷ ts) [] k l h = absurd (not-suc-le-zero h)
-index-arcs (t ∷ ts) (x ∷ hs) zero l h = List·Memᴰ·head refl
-index-arcs (t ∷ ts) (x ∷ hs) (suc k) l h = List·Memᴰ·tail (index-arcs ts hs k (omega arith) (omega arith))
 
 module _ (n : ℕ) (ts hs : List ℕ) (f : Fine n ts hs) where
   -- An arc of a fine network joins two distinct zones.

@@ -1,8 +1,9 @@
--- What the theory stands on: Bools, lists, counting, numbers that ascend, arcs handed in.
+-- What the theory stands on: Bools, lists, counting, numbers that ascend, arcs handed in, runs of stores.
 pub mod Bools
 pub mod Lists
 pub mod Counting
 pub mod Ascending
 pub mod Few
 pub mod ArcLists
+pub mod Storing
 pub mod Shuffled

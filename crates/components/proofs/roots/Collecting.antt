@@ -13,7 +13,7 @@ use Rattle.rows.specs.Marks.{Marked}
 use Rattle.rows.proofs.Zeros.{zeros-none, zeros-clear}
 use Rattle.order.specs.Memory.{cell}
 use Rattle.rows.proofs.Regions.{at-kept}
-use Rattle.order.proofs.Regions.{drop-on}
+use Rattle.rows.proofs.Places.{drop-deeper}
 use Rattle.order.proofs.Plain.Entries.{entry-head}
 use Rattle.components.specs.Gather.{Gather}
 use Rattle.components.specs.Roots.{Laid, Held, Sweep, Gathered, Given, Rest, Collecting, Collected}
@@ -24,7 +24,7 @@ use Rattle.components.proofs.Plain.Topology.{gather-ended, topo-ended, 
 pub laid-rest : {w w' : List ℕ} {zones starts rows marks queue : ℕ} → Laid w zones starts rows marks queue
     → Rest w w' zones marks queue → Laid w' zones starts rows marks queue
 laid-rest {w} {w'} {zones = zones} {starts = starts} {queue = queue} L K =
-    let e = drop-on w w' (queue + zones) starts (L .before) (K .back) in
+    let e = drop-deeper w w' (queue + zones) starts (L .before) (K .back) in
     record {
       small = L .small;
       apart = L .apart;
@@ -94,7 +94,7 @@ module _ {w₀ : List ℕ} {zones starts rows turned-starts turned-rows seen ord
         (S : Sweep w' zones turned-starts turned-rows roots queue (z + 1) tail r 0 r) where
       -- The turned rows are kept.
       turned-same : drop turned-starts w' ≡ drop turned-starts w₀
-      turned-same = drop-on w₀ w' (queue + zones) turned-starts (L .before) (H .back ∙ C .rest .back)
+      turned-same = drop-deeper w₀ w' (queue + zones) turned-starts (L .before) (H .back ∙ C .rest .back)
 
       -- The search that is done, over the turned rows as they were handed.
       search : Gather (rows-of w₀ zones turned-starts turned-rows) (cell w' roots) (cell w' queue)

@@ -13,7 +13,7 @@ use lib.Seq.{getD-set-same, getD-set-other, drop-set-lt, take-set-le}
 use Rattle.rows.specs.Marks.{zeros}
 use Rattle.rows.proofs.Zeros.{same?, zeros-other, zeros-mark}
 use Rattle.order.specs.Memory.{cell}
-use Rattle.order.proofs.Regions.{drop-on}
+use Rattle.rows.proofs.Places.{drop-deeper}
 use Rattle.components.specs.Roots.{Laid, Held}
 
 -- Where nothing changes, all is kept.
@@ -45,7 +45,7 @@ held-then some le p q = record {
 -- What stands behind the queue is kept, further on too.
 held-drop : {w w' : List ℕ} {zones marks queue tail x : ℕ} (n : ℕ) → queue + zones ≤ n
     → Held w w' zones marks queue tail x → drop n w' ≡ drop n w
-held-drop {w} {w'} {zones} {queue = queue} n le H = drop-on w w' (queue + zones) n le (H .back)
+held-drop {w} {w'} {zones} {queue = queue} n le H = drop-deeper w w' (queue + zones) n le (H .back)
 
 -- The memory stays laid.
 pub laid-held : {w w' : List ℕ} {zones starts rows marks queue tail x : ℕ} → Laid w zones starts rows marks queue

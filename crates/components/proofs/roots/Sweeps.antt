@@ -13,7 +13,7 @@ use lib.Seq.{getD-drop}
 use Rattle.rows.specs.Marks.{Marked, First-in}
 use Rattle.rows.specs.declared.Found.the-variants.{At}
 use Rattle.order.specs.Memory.{cell}
-use Rattle.order.proofs.Regions.{behind}
+use Rattle.rows.proofs.Places.{behind}
 use Rattle.components.specs.Roots.{Laid, Held, Sweep, Row}
 use Rattle.components.proofs.Plain.Gathering.{spread, gather-next, gather-start, gather-begun, gather-rest}
 use Rattle.components.proofs.roots.Joins.{Join, joined-space, joined-fewer, joined-mark, joined-mark-other}

@@ -7,7 +7,8 @@ use Prim.Native.Nat.{_-_, _≤_, _<_}
 use lib.ListN.{length}
 use Rattle.rules.specs.Calls.{arcs-of}
 use Rattle.kinds.specs.Kinds.{Marking}
-use Rattle.kinds.proofs.Marks.{arc-in, room-around, marking-none, marking-more}
+use Rattle.theory.proofs.Ground.ArcLists.{index-arcs}
+use Rattle.kinds.proofs.Marks.{room-around, marking-none, marking-more}
 use Rattle.kinds.proofs.mark.Statement.{statement}
 use Rattle.kinds.proofs.mark.Tie as tie
 
@@ -46,7 +47,7 @@ note-requires c κs =
     let hs = s .args .heads .now in
     let a : l .loop .i < length ts = omega arith in
     let b : l .loop .i < length hs = omega (arith, s .pre .pairs) in
-    let m = arc-in ts hs (l .loop .i) a b in
+    let m = index-arcs ts hs (l .loop .i) a b in
     (room-around (l .loop .inv .1 .around) (s .pre .room), (s .pre .between .tails m, s .pre .between .heads m))
 
 -- Sums and casts keep in range, and places are inside the memory.

@@ -1,11 +1,14 @@
 -- The arcs that a tail list and a head list hand in.
 --   arcs-length   there are as many arcs as tails
+--   index-arcs    what stands at one index of both lists is an arc
 -- By induction on the tails. Assumes nothing.
 use mathlib.Core.Path.{_≡_, refl, ap}
-use mathlib.Core.List.{List, [], _∷_, zipWith}
-use Prim.Native.Nat.{ℕ, suc}
+use mathlib.Core.List.{List, [], _∷_, zipWith, List·Memᴰ as In, List·Memᴰ·head, List·Memᴰ·tail}
+use Prim.Native.Nat.{ℕ, zero, suc, _<_}
+use native.Mathlib.Nat.{not-suc-le-zero}
 use native.Mathlib.Omega.{arith}
-use lib.ListN.{length}
+use lib.ListN.{length, getD}
+use Rattle.rules.specs.Network.{_⟶_}
 use Rattle.rules.specs.Calls.{arcs-of}
 
 -- there are as many arcs as tails
@@ -14,3 +17,12 @@ unfolding arcs-of zipWith
 arcs-length [] hs e = refl
 arcs-length (t ∷ ts) [] e = omega arith
 arcs-length (t ∷ ts) (h ∷ hs) e = ap suc (arcs-length ts hs (omega arith))
+
+-- what stands at one index of both lists is an arc
+pub index-arcs : (ts hs : List ℕ) (k : ℕ) → k < length ts → k < length hs
+    → In (getD ts k 0 ⟶ getD hs k 0) (arcs-of ts hs)
+unfolding arcs-of zipWith
+index-arcs [] hs k l h = absurd (not-suc-le-zero l)
+index-arcs (t ∷ ts) [] k l h = absurd (not-suc-le-zero h)
+index-arcs (t ∷ ts) (x ∷ hs) zero l h = List·Memᴰ·head refl
+index-arcs (t ∷ ts) (x ∷ hs) (suc k) l h = List·Memᴰ·tail (index-arcs ts hs k (omega arith) (omega arith))
