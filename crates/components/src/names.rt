@@ -2,7 +2,7 @@
 // gone through upwards, so the first zone that is met with a root is the lowest; it is noted for the root, one more
 // than itself.
 //     names, low, roots   where the names, the notes and the root numbers stand, of `zones` elements each
-ghost use Prim.Native.Nat.{ℕ, _<_};
+ghost use Prim.Native.Nat.{_<_};
 ghost use lib.ListN.{length};
 ghost use Rattle.components.specs.Names.{Noted, Nameable, Named};
 

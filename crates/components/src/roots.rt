@@ -7,7 +7,7 @@
 //                   `collect` has as tstarts and trows
 //     marks, roots  where the root numbers stand: one more than the root, 0 where a zone has none
 //     queue         where the queue stands;   from   where in it the search's own part begins
-ghost use Prim.Native.Nat.{ℕ, _+_, _<_};
+ghost use Prim.Native.Nat.{_+_, _<_};
 ghost use Rattle.components.specs.Roots.{Laid, Sweep, Row, Visiting, Draining, Gatherable, Gathered};
 ghost use Rattle.components.specs.Roots.{Given, Collected};
 use rows::Found;

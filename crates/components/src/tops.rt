@@ -1,8 +1,6 @@
 // The names of all components, in the queue's order, in lent work memory: a zone is a name where it is its own name.
 //     tops, names, queue   where the list of names, the names and the queue stand, of `zones` elements each
-ghost use Prim.Native.Nat.{ℕ, _<_};
-ghost use lib.ListN.{length, getD};
-ghost use Rattle.order.specs.Memory.{cell};
+ghost use Prim.Native.Nat.{_<_};
 ghost use Rattle.components.specs.Tops.{Picked, Pickable, Listable, Listed};
 
 // Puts the zone at `at` into the list at `to` where it is its own name. Answers how many were put.

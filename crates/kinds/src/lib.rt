@@ -3,7 +3,7 @@
 // over the zones. Each zone's name stands in lent work memory from 5 n on, as the crate `components` leaves it; what
 // comes in is noted from 2 n on, what goes out from 3 n on, n being the number of zones.
 ghost use mathlib.Core.Path.{_≡_};
-ghost use Prim.Native.Nat.{ℕ, _<_};
+ghost use Prim.Native.Nat.{_<_};
 ghost use lib.ListN.{length};
 ghost use Rattle.rules.specs.Lists.{run, keep};
 ghost use Rattle.rules.specs.Network.{network-of};

@@ -2,10 +2,10 @@
 --   written-start     bytes put at the start of a buffer are its first bytes
 --   planned           where the network passes every test, what is put for the answer of PLAN fits and is its lines
 -- Where there is no trouble the promise of PLAN is its values and the plan over what was there. Assumes nothing.
-use Prim.Native.Nat.{ℕ, suc, _+_, _≤_}
+use Prim.Native.Nat.{ℕ, _+_, _≤_}
 use native.Mathlib.Omega.{arith}
-use mathlib.Core.Path.{_≡_, refl, sym, ap, _∙_}
-use mathlib.Core.List.{List, [], _∷_, map, zipWith}
+use mathlib.Core.Path.{_≡_, sym, ap, _∙_}
+use mathlib.Core.List.{List, map}
 use mathlib.Core.Option.{none}
 use lib.ListN.{length, take, drop, length-append, length-map}
 use lib.Seq.{take-at}

@@ -2,14 +2,12 @@
 --   rest-bytes i ts hs    the bytes of the arcs from index i on, with rest-cons, rest-length, rest-turn and rest-none
 -- Assumes nothing.
 use Prim.Native.Nat.{ℕ, suc, _+_, _≤_, _<_}
-use native.Mathlib.Nat.{zero-add, add-zero}
 use native.Mathlib.Numerals.{add-one}
 use native.Mathlib.Omega.{arith}
-use mathlib.Core.Path.{_≡_, _∙_}
-use mathlib.Core.List.{List, [], _∷_, _++_, append-assoc, zipWith}
-use lib.ListN.{length, getD, set, drop, length-append, drop-of-length-le}
-use lib.Seq.{drop-cons, sets, sets-eq}
-use Rattle.rules.specs.Lists.{over}
+use mathlib.Core.Path.{_≡_}
+use mathlib.Core.List.{List, [], _++_, append-assoc, zipWith}
+use lib.ListN.{length, getD, drop, length-append, drop-of-length-le}
+use lib.Seq.{drop-cons, sets}
 use Rattle.rules.specs.Number.{number-bytes}
 use Rattle.rules.specs.File.{arc-bytes, arcs-bytes}
 use Rattle.rules.specs.Calls.{arcs-of}

@@ -1,7 +1,6 @@
 // The arcs of a skeleton inside a component, in lent work memory: the zones of a component make a ring, each followed
 // by the next one above it, and the highest by the lowest. The zones have their names in the memory.
-ghost use Prim.Native.Nat.{_*_, _≤_, _<_};
-ghost use lib.ListN.{length};
+ghost use Prim.Native.Nat.{_*_, _<_};
 ghost use Rattle.crossings.specs.Named.{name-at};
 ghost use Rattle.ring.specs.Ring.{Ringable, First-above, Ring-next, Ringed};
 use rows::wide;

@@ -3,12 +3,12 @@
 --   kept-at, kept-rows                               what lies behind the stack is as it was: an element, the rows
 --   head-at, start-at, stop-at                       the rows that stand in w, said of w's elements
 -- Assumes nothing.
-use mathlib.Core.Path.{_≡_, refl, sym, ap, _∙_}
+use mathlib.Core.Path.{_≡_, refl, ap, _∙_}
 use mathlib.Core.List.{List}
 use Prim.Native.Nat.{ℕ, _+_, _-_, _≤_, _<_}
 use native.Mathlib.Omega.{arith}
 use lib.ListN.{getD, take, drop, set, length-set}
-use lib.Seq.{getD-drop, drop-drop, take-set-le, take-set-lt, drop-set-lt}
+use lib.Seq.{getD-drop, take-set-le, take-set-lt, drop-set-lt}
 use Rattle.rows.proofs.Places.{drop-deeper}
 use Rattle.rows.specs.Rows.{rows-of}
 use Rattle.rows.proofs.Regions.{at-kept}
