@@ -142,5 +142,7 @@ fn main() {
         &mut work,
         &mut out,
     );
-    io::write_all(1, &out[..length]);
+    if !io::write_all(1, &out[..length]) {
+        io::write_all(2, b"linkplan: the output could not be written whole\n");
+    }
 }
