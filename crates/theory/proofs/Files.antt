@@ -3,5 +3,6 @@ pub mod Readings
 pub mod NumberLaws
 pub mod FileLaws
 pub mod FileCut
+pub mod CutShort
 pub mod AnswerLaws
 pub mod SkeletonFile
