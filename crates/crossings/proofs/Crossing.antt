@@ -5,15 +5,14 @@
 -- A mark among the direct names stands where the theory's `Direct` holds, and what is picked is the theory's `Chosen`.
 -- Assumes nothing.
 use mathlib.Core.Path.{_≡_, refl, sym, ap, _∙_}
-use mathlib.Core.List.{List, List·Memᴰ as In}
+use mathlib.Core.Logic.{⊎-elim}
+use mathlib.Core.List.{List}
 use Prim.Native.Nat.{ℕ, _+_, _*_, _<_}
 use native.Mathlib.Omega.{arith}
-use lib.ListN.{length, getD}
+use lib.ListN.{getD}
 use Rattle.rules.specs.Network.{Network, _⟶_, Proper}
 use Rattle.rules.specs.Components.{name}
 use Rattle.rules.specs.Calls.{handed}
-use Rattle.theory.proofs.Ground.ArcLists.{index-arcs}
-use Rattle.tests.proofs.Fine.{arcs-index}
 use Rattle.theory.proofs.Reaching.Components.{Together, together-zone, name-together, name-name, name-agree}
 use Rattle.theory.proofs.Skeletons.SkeletonLaws.{Joined, crosses-true, true-crosses}
 use Rattle.theory.proofs.Skeletons.SkeletonOrder.{Direct, Chosen, direct-zone, chosen-crosses, crosses-chosen}
@@ -22,16 +21,18 @@ use Rattle.rows.proofs.Regions.{at-below, at-kept}
 use Rattle.search.specs.Marking.{Clear}
 use Rattle.rows.proofs.Places.{drop-deeper}
 use Rattle.crossings.specs.Named.{name-at, top-at, Named, Crossed}
-use Rattle.crossings.specs.Direct.{Led, Directable, Directed}
+use Rattle.crossings.specs.Direct.{Led, Directable, Added}
 use Rattle.crossings.specs.Choosing.{Picked, Choosable, Choosing}
 use Rattle.crossings.proofs.NamedLaws.{
   zone-in,
   in-zone,
   named-kept,
   named-proper,
-  named-zone,
+  named-lowest,
   top-zone,
   named-laid,
+  named-entry,
+  entry-named,
   way-reach,
   reach-way,
 }
@@ -54,17 +55,11 @@ module _ (w : List ℕ) (n : ℕ) (ts hs : List ℕ) (m : ℕ) (N : Named w n ts
       }
 
   -- the direct names can be marked
-  pub crossed-direct : Directable w n ts hs
-  crossed-direct =
-      record {
-        fine = N .fine;
-        fits = omega (arith, N .room);
-        names = named-zone w n ts hs m N;
-        clear = λ v h. free-zero (2 * n + v) (omega arith);
-      }
+  pub crossed-direct : Directable w n
+  crossed-direct = record { laid = named-laid w n ts hs m N; lowest = named-lowest w n ts hs m N }
 
   -- v is the memory with the marks of the direct names
-  module _ (v : List ℕ) (D : Directed w v n a ts hs (length ts)) where
+  module _ (v : List ℕ) (D : Added w v n (Led w n a n)) where
     -- rows and names stand still
     pub named-still : Named v n ts hs m
     named-still =
@@ -106,49 +101,39 @@ module _ (w : List ℕ) (n : ℕ) (ts hs : List ℕ) (m : ℕ) (N : Named w n ts
           let i = zone-in n ts hs z h in
           N .named z h ∙ name-agree proper i (together-zone proper i t) t ∙ e
 
-      -- an arc by its index
-      arc-at : (k : ℕ) → k < length ts → In (getD ts k 0 ⟶ getD hs k 0) (net .arcs)
-      unfolding handed
-      arc-at k h = index-arcs ts hs k h (omega (arith, N .fine .paired))
-
       -- where an arc leads is direct
-      led-direct : (d : ℕ) → Led (name-at w n) a ts hs (length ts) d → Direct net a d
+      led-direct : (d : ℕ) → Led w n a n d → Direct net a d
       led-direct d l =
-          let t = getD ts (l .at) 0 in
-          let h = getD hs (l .at) 0 in
-          let th : h < n = N .fine .heads (l .at) (l .high) in
-          let same = sym (N .named h th) ∙ l .leads .to in
+          let h = l .leads .head in
+          let i = named-entry w n ts hs m N (l .leads .entry) in
+          let th : h < n = in-zone n ts hs h (proper .heads i) in
+          let same = sym (N .named h th) ∙ l .leads .out .to in
           record {
             named = rw same at (name-name proper (zone-in n ts hs h th));
-            other = l .leads .other;
+            other = l .leads .out .other;
             arc = (
-              t ⟶ h,
-              arc-at (l .at) (l .high),
-              with-name t a (N .fine .tails (l .at) (l .high)) (l .leads .from),
-              with-name h d th (l .leads .to),
+              l .tail ⟶ h,
+              i,
+              with-name (l .tail) a (l .high) (l .leads .from),
+              with-name h d th (l .leads .out .to),
             );
           }
 
-      -- the index of an arc of the network
-      at-arc : {t h : ℕ} → In (t ⟶ h) (net .arcs) → (k : ℕ) × (k < length ts) × (getD ts k 0 ≡ t) × (getD hs k 0 ≡ h)
-      unfolding handed
-      at-arc i = arcs-index ts hs i
-
       -- to what is direct an arc leads
-      direct-led : (d : ℕ) → Direct net a d → Led (name-at w n) a ts hs (length ts) d
+      direct-led : (d : ℕ) → Direct net a d → Led w n a n d
       direct-led d X =
           let j : Joined net a d = X .arc in
-          let k = at-arc (j .1) in
           let t : j .0 .tail < n = in-zone n ts hs (j .0 .tail) (proper .tails (j .1)) in
           let h : j .0 .head < n = in-zone n ts hs (j .0 .head) (proper .heads (j .1)) in
           record {
-            at = k .0;
-            high = k .1;
+            tail = j .0 .tail;
+            high = t;
             leads =
                 record {
-                  from = rw (k .2) (name-with (j .0 .tail) a t own (j .2));
-                  to = rw (k .3) (name-with (j .0 .head) d h (X .named) (j .3));
-                  other = X .other;
+                  from = name-with (j .0 .tail) a t own (j .2);
+                  head = j .0 .head;
+                  entry = entry-named w n ts hs m N (j .1);
+                  out = record { to = name-with (j .0 .head) d h (X .named) (j .3); other = X .other };
                 };
           }
 
@@ -158,11 +143,15 @@ module _ (w : List ℕ) (n : ℕ) (ts hs : List ℕ) (m : ℕ) (N : Named w n ts
 
       -- a mark among the direct names stands for a direct one
       marked-direct : (d : ℕ) → d < n → Marked v (2 * n) d → Direct net a d
-      marked-direct d h o = led-direct d (D .sound d h o)
+      marked-direct d h o =
+          ⊎-elim
+          (λ (k : Marked w (2 * n) d). absurd (k (free-zero (2 * n + d) (omega arith))))
+          (led-direct d)
+          (D .new d h o)
 
       -- a direct name has its mark
       direct-marked : (d : ℕ) → Direct net a d → Marked v (2 * n) d
-      direct-marked d X = D .complete d (direct-low d X) (direct-led d X)
+      direct-marked d X = D .own d (direct-low d X) (direct-led d X)
 
       -- what is picked is chosen
       picked-chosen : (b : ℕ) → b < n → Picked v n m b → Chosen net (top-at v n) m a b

@@ -1,29 +1,32 @@
 -- Lent work memory in which a network's zones have their names.
 --   zone-in, in-zone     a number below the zone count is a zone, and a zone is below it
 --   named-kept           what keeps everything from 4 n on keeps rows and names
---   named-zone, top-zone the names that stand there are zones
+--   named-lowest         no name is above its zone
+--   top-zone             the names of all components are zones
 --   named-laid           a search can go along the rows, with its marks and stack in the first 2 n places
+--   named-entry, entry-named     an entry of the rows is an arc, and back
 --   way-reach, reach-way a run along the rows is a reach, and back
 -- Assumes nothing.
 use mathlib.Core.Path.{_≡_, _∙_}
 use mathlib.Core.List.{List, List·Memᴰ as In}
-use Prim.Native.Nat.{ℕ, _+_, _*_, _<_}
+use Prim.Native.Nat.{ℕ, _+_, _*_, _≤_, _<_}
 use native.Mathlib.Omega.{arith}
 use lib.ListN.{length, drop}
-use Rattle.rules.specs.Network.{Proper, Reach}
+use Rattle.rules.specs.Network.{_⟶_, Proper, Reach}
 use Rattle.rules.specs.Calls.{arcs-of, handed}
 use Rattle.tests.proofs.Fine.{fine-proper}
 use Rattle.theory.proofs.Ground.ArcLists.{arcs-length}
 use Rattle.theory.proofs.Ground.Ascending.{run-in, in-run}
-use Rattle.theory.proofs.Reaching.Components.{name-in}
+use Rattle.theory.proofs.Reaching.Components.{together-refl, name-lowest}
+use Rattle.rows.specs.Rows.{Entry}
 use Rattle.rows.specs.Work.{starts-at, rows-at}
-use Rattle.rows.proofs.ArrangedLaws.{arranged-kept, run-reach, reach-run}
+use Rattle.rows.proofs.ArrangedLaws.{arranged-kept, arranged-entry, entry-arranged, run-reach, reach-run}
 use Rattle.rows.proofs.Regions.{at-kept}
 use Rattle.search.specs.Marking.{Laid}
 use Rattle.rows.proofs.Places.{drop-deeper}
 use Rattle.search.proofs.Laying.{arranged-laid}
 use Rattle.network.proofs.Memory.{arcs-within}
-use Rattle.crossings.specs.Named.{name-at, top-at, Named}
+use Rattle.crossings.specs.Named.{name-at, top-at, rows-in, Named}
 use Rattle.crossings.specs.Choosing.{Way}
 
 module _ (n : ℕ) (ts hs : List ℕ) where
@@ -65,9 +68,11 @@ module _ (w : List ℕ) (n : ℕ) (ts hs : List ℕ) (m : ℕ) (N : Named w n ts
   pub named-proper : Proper (handed n ts hs)
   named-proper = fine-proper n ts hs (N .fine)
 
-  -- the name of a zone is a zone
-  pub named-zone : (v : ℕ) → v < n → name-at w n v < n
-  named-zone v h = rw (N .named v h) (in-zone n ts hs _ (name-in named-proper (zone-in n ts hs v h)))
+  -- no name is above its zone
+  pub named-lowest : (v : ℕ) → v < n → name-at w n v ≤ v
+  named-lowest v h =
+      let i = zone-in n ts hs v h in
+      rw (N .named v h) (name-lowest named-proper i i together-refl)
 
   -- each of the names of all components is a zone
   pub top-zone : (j : ℕ) → j < m → top-at w n j < n
@@ -79,6 +84,17 @@ module _ (w : List ℕ) (n : ℕ) (ts hs : List ℕ) (m : ℕ) (N : Named w n ts
       arranged-laid w n (starts-at n) (rows-at n) 0 n (arcs-of ts hs) (N .rows) (arcs-within n ts hs (N .fine))
       (N .fine .high) (omega arith) (omega arith)
       (omega (arith, arcs-length ts hs (N .fine .paired), N .room, N .fine .low))
+
+  -- an entry of the rows is an arc
+  pub named-entry : {a b : ℕ} → Entry (rows-in w n) a b → In (a ⟶ b) (handed n ts hs .arcs)
+  unfolding handed
+  named-entry e = arranged-entry w n (starts-at n) (rows-at n) (arcs-of ts hs) (N .rows) e
+
+  -- an arc is an entry of the rows
+  pub entry-named : {a b : ℕ} → In (a ⟶ b) (handed n ts hs .arcs) → Entry (rows-in w n) a b
+  unfolding handed
+  entry-named i =
+      entry-arranged w n (starts-at n) (rows-at n) (arcs-of ts hs) (N .rows) (arcs-within n ts hs (N .fine)) i
 
   -- a run along the rows is a reach
   pub way-reach : {a b : ℕ} → Way w n a b → Reach (handed n ts hs) a b

@@ -10,15 +10,11 @@ use mathlib.Core.Logic.{_⊎_}
 use mathlib.Core.List.{List}
 use Prim.Native.Nat.{ℕ, _+_, _*_, _≤_, _<_}
 use lib.ListN.{length, getD, drop}
-use Rattle.rows.specs.Rows.{Rows, Entry, Run, rows-of}
+use Rattle.rows.specs.Rows.{Entry, Run}
 use Rattle.rows.specs.Marks.{Marked}
 use Rattle.rows.specs.Work.{starts-at, rows-at}
 use Rattle.search.specs.Marking.{Laid, Clear, Closed}
-use Rattle.crossings.specs.Named.{top-at}
-
--- the rows in w
-abbrev pub rows-in : List ℕ → ℕ → Rows
-rows-in w n = rows-of w n (starts-at n) (rows-at n)
+use Rattle.crossings.specs.Named.{top-at, rows-in}
 
 -- a run of entries leads from a to v
 abbrev pub Way : List ℕ → ℕ → ℕ → ℕ → Type 0

@@ -1,57 +1,56 @@
 -- What marking the components that arcs lead to asks and leaves. The marks stand from 2 n on.
---   Leads name a t h d     an arc from t to h leads out of the component named a, to that named d
---   Led name a ts hs i d   one of the first i arcs does
---   Notable, Noted         what looking at one arc asks, and what it leaves
---   Directable, Directed   the same for the first i arcs
+--   Out w n a h d       the zone h is not of the component named a, but of the one named d
+--   Past w n a f i d    so is one of the heads that stand from place f up to place i
+--   Leads w n a z d     z is of the component named a, and an arc from z leads out of it, to the one named d
+--   Led w n a k d       an arc from a zone below k does
+--   Directable w n      the rows and the names stand in the memory
+--   Added w w' n P      marks are set for the names that P holds of, and nothing else changes
 use mathlib.Core.Path.{_≡_}
 use mathlib.Core.Logic.{_⊎_}
 use mathlib.Core.List.{List}
 use Prim.Native.Nat.{ℕ, _*_, _≤_, _<_}
 use lib.ListN.{length, getD, take, drop}
-use Rattle.tests.specs.Tested.{Fine}
+use Rattle.rows.specs.Rows.{Entry}
 use Rattle.rows.specs.Marks.{Marked}
-use Rattle.search.specs.Marking.{Clear}
-use Rattle.crossings.specs.Named.{name-at}
+use Rattle.rows.specs.Work.{starts-at, rows-at}
+use Rattle.search.specs.Marking.{Laid}
+use Rattle.crossings.specs.Named.{name-at, rows-in}
 
--- an arc from tail to head leads from the component with the name a to another, with the name d
-pub record Leads (name : ℕ → ℕ) (a tail head d : ℕ) : Type 0 where
-  pub from : name tail ≡ a
-  pub to : name head ≡ d
+-- the zone h is not of the component with the name a, but of the one with the name d
+pub record Out (w : List ℕ) (n a h d : ℕ) : Type 0 where
+  pub to : name-at w n h ≡ d
   pub other : d ≡ a → ⊥
 
--- one of the first i arcs does
-pub record Led (name : ℕ → ℕ) (a : ℕ) (ts hs : List ℕ) (i d : ℕ) : Type 0 where
+-- so is one of the heads that stand from place f up to place i
+pub record Past (w : List ℕ) (n a f i d : ℕ) : Type 0 where
   pub at : ℕ
+  pub low : f ≤ at
   pub high : at < i
-  pub leads : Leads name a (getD ts at 0) (getD hs at 0) d
+  pub out : Out w n a (getD w at 0) d
 
--- the names lie in the memory and are zones, and so are the two ends of the arc
-pub record Notable (w : List ℕ) (n tail head : ℕ) : Type 0 where
-  pub fits : 12 * n ≤ length w
-  pub names : (v : ℕ) → v < n → name-at w n v < n
-  pub tail-zone : tail < n
-  pub head-zone : head < n
+-- an arc from z leads from the component with the name a to another, with the name d
+pub record Leads (w : List ℕ) (n a z d : ℕ) : Type 0 where
+  pub from : name-at w n z ≡ a
+  pub head : ℕ
+  pub entry : Entry (rows-in w n) z head
+  pub out : Out w n a head d
 
--- only the marks change; the marks that were there are there, and one for where the arc leads
-pub record Noted (w w' : List ℕ) (n a tail head : ℕ) : Type 0 where
+-- an arc from a zone below k does
+pub record Led (w : List ℕ) (n a k d : ℕ) : Type 0 where
+  pub tail : ℕ
+  pub high : tail < k
+  pub leads : Leads w n a tail d
+
+-- the rows lie in the memory, and no name is above its zone
+pub record Directable (w : List ℕ) (n : ℕ) : Type 0 where
+  pub laid : Laid w n (starts-at n) (rows-at n) 0 n
+  pub lowest : (v : ℕ) → v < n → name-at w n v ≤ v
+
+-- only the marks change; the marks that were there are there, and one for each name that P holds of
+pub record Added (w w' : List ℕ) (n : ℕ) (P : ℕ → Type 0) : Type 0 where
   pub long : length w' ≡ length w
   pub low : take (2 * n) w' ≡ take (2 * n) w
   pub high : drop (3 * n) w' ≡ drop (3 * n) w
   pub old : (v : ℕ) → v < n → Marked w (2 * n) v → Marked w' (2 * n) v
-  pub new : (v : ℕ) → v < n → Marked w' (2 * n) v → Marked w (2 * n) v ⊎ Leads (name-at w n) a tail head v
-  pub own : (v : ℕ) → Leads (name-at w n) a tail head v → Marked w' (2 * n) v
-
--- the network passes its tests, the names lie in the memory and are zones, and there are no marks
-pub record Directable (w : List ℕ) (n : ℕ) (ts hs : List ℕ) : Type 0 where
-  pub fine : Fine n ts hs
-  pub fits : 12 * n ≤ length w
-  pub names : (v : ℕ) → v < n → name-at w n v < n
-  pub clear : Clear w (2 * n) n
-
--- only the marks change, and they stand exactly where the first i arcs lead
-pub record Directed (w w' : List ℕ) (n a : ℕ) (ts hs : List ℕ) (i : ℕ) : Type 0 where
-  pub long : length w' ≡ length w
-  pub low : take (2 * n) w' ≡ take (2 * n) w
-  pub high : drop (3 * n) w' ≡ drop (3 * n) w
-  pub sound : (v : ℕ) → v < n → Marked w' (2 * n) v → Led (name-at w n) a ts hs i v
-  pub complete : (v : ℕ) → v < n → Led (name-at w n) a ts hs i v → Marked w' (2 * n) v
+  pub new : (v : ℕ) → v < n → Marked w' (2 * n) v → Marked w (2 * n) v ⊎ P v
+  pub own : (v : ℕ) → v < n → P v → Marked w' (2 * n) v

@@ -1,26 +1,21 @@
-// The arcs of a skeleton that go from one component to another, in lent work memory. The zones have their names there,
-// and the names of all components stand in topological order. For a name, a mark is set for each component that an arc
-// leads to. Gone through in topological order, such a component is chosen unless a search from one chosen before came
-// to it: then that one lies between.
+// The arcs of a skeleton that go from one component to another, in lent work memory. The arcs stand there in rows, the
+// zones have their names, and the names of all components stand in topological order. For a name, a mark is set for
+// each component that an arc leads to. Gone through in topological order, such a component is chosen unless a search
+// from one chosen before came to it: then that one lies between.
 ghost use Rattle.search.specs.Marking.{Clear};
-ghost use Rattle.crossings.specs.Direct.{Notable, Noted, Directable, Directed};
+ghost use Rattle.crossings.specs.Direct.{Out, Leads, Led, Directable, Added};
 ghost use Rattle.crossings.specs.Choosing.{Triable, Tried, Choosable, Choosing};
 ghost use Rattle.crossings.specs.Named.{Named, Crossed};
 ghost use Prim.Native.Nat.{_*_, _<_};
-ghost use lib.ListN.{length};
 use rows::wide;
 use search::search;
 
-// Marks the name of the head of an arc that goes out of the component with the name `a`.
-fn note(work: &mut [u16], zones: usize, a: usize, tail: u16, head: u16)
-    requires { ⌜ Notable (now work) zones tail head ⌝ }
-    ensures { λ r. ⌜ Noted (now (work .entry)) (now (work .exit)) zones a tail head ⌝ }
+// Marks the name of the zone `head`, where it is another than `a`.
+fn note(work: &mut [u16], zones: usize, a: usize, head: u16)
+    requires { ⌜ Directable (now work) zones ⌝ }
+    requires { ⌜ head < zones ⌝ }
+    ensures { λ r. ⌜ Added (now (work .entry)) (now (work .exit)) zones (Out (now (work .entry)) zones a head) ⌝ }
 {
-    let t = wide(tail);
-    let from = wide(work[5 * zones + t]);
-    if from != a {
-        return;
-    }
     let h = wide(head);
     let to = wide(work[5 * zones + h]);
     if to == a {
@@ -29,16 +24,36 @@ fn note(work: &mut [u16], zones: usize, a: usize, tail: u16, head: u16)
     work[2 * zones + to] = 1;
 }
 
-// Marks the name of every component that an arc leads to out of the component with the name `a`.
-fn mark_direct(tails: &[u16], heads: &[u16], work: &mut [u16], zones: usize, a: usize)
-    requires { ⌜ Directable (now work) zones (now tails) (now heads) ⌝ }
-    ensures { λ r. ⌜ Directed (now (work .entry)) (now (work .exit)) zones a (now (tails .entry))
-        (now (heads .entry)) (length (now (tails .entry))) ⌝ }
+// Marks the name of every component that an arc from the zone `z` leads to, where `z` is of the one named `a`.
+fn mark_row(work: &mut [u16], zones: usize, a: usize, z: usize)
+    requires { ⌜ Directable (now work) zones ⌝ }
+    requires { ⌜ z < zones ⌝ }
+    ensures { λ r. ⌜ Added (now (work .entry)) (now (work .exit)) zones (Leads (now (work .entry)) zones a z) ⌝ }
 {
-    let mut arc = 0;
-    while arc < tails.len() {
-        note(work, zones, a, tails[arc], heads[arc]);
-        arc += 1;
+    let name = wide(work[5 * zones + z]);
+    if name != a {
+        return;
+    }
+    let mut i = 13 * zones + 1 + wide(work[12 * zones + z]);
+    let end = 13 * zones + 1 + wide(work[12 * zones + z + 1]);
+    while i < end {
+        let head = work[i];
+        note(work, zones, a, head);
+        i += 1;
+    }
+}
+
+// Marks the name of every component that an arc leads to out of the component with the name `a`. No zone of it is
+// below `a`.
+fn mark_direct(work: &mut [u16], zones: usize, a: usize)
+    requires { ⌜ Directable (now work) zones ⌝ }
+    requires { ⌜ a < zones ⌝ }
+    ensures { λ r. ⌜ Added (now (work .entry)) (now (work .exit)) zones (Led (now (work .entry)) zones a zones) ⌝ }
+{
+    let mut z = a;
+    while z < zones {
+        mark_row(work, zones, a, z);
+        z += 1;
     }
 }
 
@@ -70,7 +85,8 @@ fn choose(work: &mut [u16], zones: usize, names: usize)
     }
 }
 
-// Marks the heads of the arcs that cross from the zone `a` to another component.
+// Marks the heads of the arcs that cross from the zone `a` to another component. The arcs are looked at in the rows of
+// the work memory; the arc list is here for the contract.
 pub fn mark_crossings(
     tails: &[u16],
     heads: &[u16],
@@ -89,6 +105,6 @@ pub fn mark_crossings(
     if name != a {
         return;
     }
-    mark_direct(tails, heads, work, zones, a);
+    mark_direct(work, zones, a);
     choose(work, zones, names);
 }

@@ -3,7 +3,6 @@
 use borrow.Author.Needs.{needs}
 use mathlib.Core.Path.{sym, _∙_}
 use Rattle.crossings.proofs.Crossing.{crossed-none, crossed-direct, crossed-choose, crossed-all}
-use borrow.Author.Needs.{needs}
 use Rattle.crossings.proofs.mark_crossings.Statement.{statement}
 use Rattle.crossings.proofs.mark_crossings.Tie as tie
 
@@ -33,8 +32,11 @@ mark-direct-requires : tie.Need-mark-direct-requires
 mark-direct-requires c κs =
     let s = c .before .before .before .before .before .before .before in
     let a = s .args in
-    crossed-direct (a .work .now) (a .zones) (a .tails .now) (a .heads .now) (a .names) (s .pre .0) (s .pre .1 .0)
-    (a .a) (s .pre .1 .1)
+    let N = s .pre .0 in (
+      crossed-direct (a .work .now) (a .zones) (a .tails .now) (a .heads .now) (a .names) N (s .pre .1 .0) (a .a)
+          (s .pre .1 .1),
+      s .pre .1 .1,
+    )
 
 choose-requires : tie.Need-choose-requires
 choose-requires c κs =
@@ -42,7 +44,7 @@ choose-requires c κs =
     let s = d .before .before .before .before .before .before .before .before in
     let a = s .args in
     crossed-choose (a .work .now) (a .zones) (a .tails .now) (a .heads .now) (a .names) (s .pre .0) (s .pre .1 .0)
-    (a .a) (s .pre .1 .1) (d .mark-direct .last .1 .1 .0) (d .mark-direct .ensures)
+    (a .a) (s .pre .1 .1) (d .mark-direct .last .0) (d .mark-direct .ensures)
 
 same-length : tie.Need-same-length
 same-length c = search needs
@@ -55,7 +57,7 @@ returns-2 c =
     let s = t .before .before .before .before .before .before in
     let a = s .args in
     crossed-all (a .work .now) (a .zones) (a .tails .now) (a .heads .now) (a .names) (s .pre .0) (s .pre .1 .0)
-    (a .a) (s .pre .1 .1) (d .mark-direct .last .1 .1 .0) (d .mark-direct .ensures)
+    (a .a) (s .pre .1 .1) (d .mark-direct .last .0) (d .mark-direct .ensures)
     (sym (t .before .wide .ensures) ∙ t .if1 .left) (e .choose .last .0) (e .choose .ensures)
 
 pub mark-crossings-spec : {M : Type 1} → statement M

@@ -1,65 +1,48 @@
--- `crossings::mark_direct` meets its contract: after `arc` turns the marks stand where the first `arc` arcs lead. The
--- measure is what is left of the arc list. Assumes nothing.
+-- `crossings::mark_direct` meets its contract: at the zone `z` the marks stand where the arcs from the zones below `z`
+-- lead. The measure is what is left of the zones. Assumes nothing.
 use borrow.Author.Needs.{needs}
 use native.Mathlib.Omega.{arith}
 use Prim.Native.Nat.{_≤_, _-_}
 use mathlib.Core.Path.{_≡_}
-use lib.ListN.{length}
-use Rattle.crossings.specs.Direct.{Directed}
-use Rattle.crossings.proofs.Noting.{directed-none, directed-notable, directed-turn}
+use Rattle.crossings.specs.Direct.{Led, Added}
+use Rattle.crossings.proofs.Noting.{directable-kept, led-none, led-turn}
 use Rattle.crossings.proofs.mark_direct.Statement.{statement}
 use Rattle.crossings.proofs.mark_direct.Tie as tie
 
 abbrev Inv-loop : tie.InvT-loop
-Inv-loop tails heads work₀ zones a arc₀ work arc =
-    (arc ≤ length tails) × Directed work₀ work zones a tails heads arc
+Inv-loop work₀ zones a z₀ work z = (z ≤ zones) × Added work₀ work zones (Led work₀ zones a z)
 
 abbrev μ-loop : tie.MeasureT-loop
-μ-loop tails heads work₀ zones a arc₀ work arc = length tails - arc
+μ-loop work₀ zones a z₀ work z = zones - z
 
 loop-holds : tie.Need-loop-holds Inv-loop μ-loop
 loop-holds c =
-    let s = c .before .before .before in
-    let a = s .args in (
-      search needs,
-      directed-none (a .work .now) (a .zones) (a .a) (a .tails .now) (a .heads .now) (s .pre),
-    )
-
-mul-note : tie.Need-mul-note Inv-loop μ-loop
-mul-note c = search needs
-
-shared-slice-read-note : tie.Need-shared-slice-read-note Inv-loop μ-loop
-shared-slice-read-note c = search needs
-
-mul-note-2 : tie.Need-mul-note-2 Inv-loop μ-loop
-mul-note-2 c = search needs
-
-shared-slice-read-note-2 : tie.Need-shared-slice-read-note-2 Inv-loop μ-loop
-shared-slice-read-note-2 c = search needs
-
-note-requires : tie.Need-note-requires Inv-loop μ-loop
-note-requires c κs =
-    let s = c .before .before .before .before .before .before .before .before in
-    let l = c .before .before .before .before .loop in
+    let s = c .before in
     let a = s .args in
-    directed-notable (a .work .now) (a .zones) (a .a) (a .tails .now) (a .heads .now) (s .pre) (l .work) (l .arc)
-    (l .inv .1) (omega arith)
+    (search needs, led-none (a .work .now) (a .zones) (a .a) (s .pre .0) (s .pre .1))
 
-add-arc : tie.Need-add-arc Inv-loop μ-loop
-add-arc c = search needs
+mark-row-requires : tie.Need-mark-row-requires Inv-loop μ-loop
+mark-row-requires c κs =
+    let t = c .before .before in
+    let s = t .before .before in
+    let a = s .args in
+    let A = t .loop .inv .1 in
+    (directable-kept (a .work .now) (t .loop .work) (a .zones) (A .high) (A .long) (s .pre .0), search needs)
+
+add-z : tie.Need-add-z Inv-loop μ-loop
+add-z c = search needs
 
 loop-less : tie.Need-loop-less Inv-loop μ-loop
 loop-less c = search needs
 
 loop-again : tie.Need-loop-again Inv-loop μ-loop
 loop-again c =
-    let d = c .before .before .before in
-    let s = d .before .before .before .before .before .before .before .before in
-    let l = d .before .before .before .before .loop in
-    let a = s .args in (
+    let x = c .before .before in
+    let t = x .before .before .before in
+    let a = t .before .before .args in
+    let l = t .loop in (
       search needs,
-      directed-turn (a .work .now) (a .zones) (a .a) (a .tails .now) (a .heads .now) (s .pre) (l .work) (l .arc)
-          (l .inv .1) _ (c .before .before .note .ensures),
+      led-turn (a .work .now) (a .zones) (a .a) (l .work) (l .z) (l .inv .1) _ (x .mark-row .ensures),
     )
 
 same-length : tie.Need-same-length Inv-loop μ-loop
@@ -68,7 +51,7 @@ same-length c = search needs
 returns : tie.Need-returns Inv-loop μ-loop
 returns c =
     let l = c .before .loop in
-    let e : l .arc ≡ length (c .before .before .before .before .before .args .tails .now) = omega arith in
+    let e : l .z ≡ c .before .before .before .args .zones = omega arith in
     rw e at (l .inv .1)
 
 pub mark-direct-spec : {M : Type 1} → statement M
@@ -78,12 +61,8 @@ mark-direct-spec =
     Inv-loop
     μ-loop
     loop-holds
-    mul-note
-    shared-slice-read-note
-    mul-note-2
-    shared-slice-read-note-2
-    note-requires
-    add-arc
+    mark-row-requires
+    add-z
     loop-less
     loop-again
     same-length
