@@ -123,8 +123,7 @@ pub fn pair(
     seconds: usize,
     lone: usize,
 ) -> usize
-    requires { ⌜ Pairable (now work)
-        (places zones starts rows s sources t sinks firsts seconds lone) ⌝ }
+    requires { ⌜ Pairable (now work) (places zones starts rows s sources t sinks firsts seconds lone) ⌝ }
     ensures { λ r. ⌜ Paired (now (work .entry)) (now (work .exit))
         (places zones starts rows s sources t sinks firsts seconds lone) r ⌝ }
 {
