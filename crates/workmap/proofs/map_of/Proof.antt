@@ -1,0 +1,101 @@
+-- `workmap::map_of` meets its contract: each part is made as the map has it. Assumes nothing.
+use borrow.Author.Needs.{needs}
+use Rattle.workmap.proofs.Places.{map-parts}
+use Rattle.workmap.proofs.map_of.Statement.{statement}
+use Rattle.workmap.proofs.map_of.Tie as tie
+
+-- the function's entry, from where the order's places are made
+abbrev entry : tie.After-order-at → tie.Start
+entry c = c .before .before .before .before .before .before
+
+asked-work-requires : tie.Need-asked-work-requires
+asked-work-requires c κs = search needs
+
+mul-rows-at : tie.Need-mul-rows-at
+mul-rows-at c = search needs
+
+rows-at-requires : tie.Need-rows-at-requires
+rows-at-requires c κs = search needs
+
+mul-rows-at-2 : tie.Need-mul-rows-at-2
+mul-rows-at-2 c = search needs
+
+add-rows-at : tie.Need-add-rows-at
+add-rows-at c = search needs
+
+add-rows-at-2 : tie.Need-add-rows-at-2
+add-rows-at-2 c = search needs
+
+rows-at-requires-2 : tie.Need-rows-at-requires-2
+rows-at-requires-2 c κs = search needs
+
+search-at-requires : tie.Need-search-at-requires
+search-at-requires c κs = search needs
+
+mul-search-at : tie.Need-mul-search-at
+mul-search-at c = search needs
+
+search-at-requires-2 : tie.Need-search-at-requires-2
+search-at-requires-2 c κs = search needs
+
+order-at-requires : tie.Need-order-at-requires
+order-at-requires c κs = search needs
+
+names-at-requires : tie.Need-names-at-requires
+names-at-requires c κs = search needs
+
+kinds-at-requires : tie.Need-kinds-at-requires
+kinds-at-requires c κs = search needs
+
+lists-at-requires : tie.Need-lists-at-requires
+lists-at-requires c κs = search needs
+
+pairs-at-requires : tie.Need-pairs-at-requires
+pairs-at-requires c κs = search needs
+
+links-at-requires : tie.Need-links-at-requires
+links-at-requires c κs = entry (c .before .before .before .before) .pre .0
+
+cross-at-requires : tie.Need-cross-at-requires
+cross-at-requires c κs = entry (c .before .before .before .before .before) .pre .0
+
+returns : tie.Need-returns
+returns c =
+    let d = c .before .before .before .before .before in
+    let o = d .before in
+    map-parts
+    (o .before .before .before .before .before .asked-work .ensures)
+    (o .before .before .before .before .rows-at .ensures)
+    (o .before .before .before .rows-at2 .ensures)
+    (o .before .before .search-at .ensures)
+    (o .before .search-at2 .ensures)
+    (o .order-at .ensures)
+    (d .names-at .ensures)
+    (c .before .before .before .before .kinds-at .ensures)
+    (c .before .before .before .lists-at .ensures)
+    (c .before .before .pairs-at .ensures)
+    (c .before .links-at .ensures)
+    (c .cross-at .ensures)
+
+pub map-of-spec : {M : Type 1} → statement M
+map-of-spec =
+    tie.close
+    (tie.spec
+    asked-work-requires
+    mul-rows-at
+    rows-at-requires
+    mul-rows-at-2
+    add-rows-at
+    add-rows-at-2
+    rows-at-requires-2
+    search-at-requires
+    mul-search-at
+    search-at-requires-2
+    order-at-requires
+    names-at-requires
+    kinds-at-requires
+    lists-at-requires
+    pairs-at-requires
+    links-at-requires
+    cross-at-requires
+    returns)

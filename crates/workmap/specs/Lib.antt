@@ -1,0 +1,2 @@
+-- What the map of lent work memory is.
+pub mod Map

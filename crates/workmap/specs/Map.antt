@@ -1,0 +1,77 @@
+-- Where everything stands in lent work memory, for a network of n zones and m arcs.
+--   0          a search: marks, stack            or the links' starts and ends
+--   2 n        a search against the arcs         or what is entered and left, or the chain's stations, or crossings
+--   4 n        tops, names, low, roots, queue, then seen, next, order: the components, n elements each
+--              or the sources at 4 n, the sinks at 6 n, those alone at 7 n; the pairs from 8 n on; the whys at 11 n
+--   12 n       the starts of the rows, n + 1, then the rows, m
+--   13 n + 1 + m   the starts of the turned rows, n + 1, then the turned rows, m
+-- The whole takes 14 n + 2 m + 2 elements, which is at most the 16 n + 3 m that are asked for.
+--   map-of n m   all places;   rows-at .. cross-at   the places of one pass
+use Prim.Native.Nat.{ℕ, _+_, _*_}
+use Rattle.rules.specs.Calls.{asked-work}
+use Rattle.workmap.specs.declared.RowsAt.{RowsAt}
+use Rattle.workmap.specs.declared.SearchAt.{SearchAt}
+use Rattle.workmap.specs.declared.OrderAt.{OrderAt}
+use Rattle.workmap.specs.declared.NamesAt.{NamesAt}
+use Rattle.workmap.specs.declared.KindsAt.{KindsAt}
+use Rattle.workmap.specs.declared.ListsAt.{ListsAt}
+use Rattle.workmap.specs.declared.PairsAt.{PairsAt}
+use Rattle.workmap.specs.declared.LinksAt.{LinksAt}
+use Rattle.workmap.specs.declared.CrossAt.{CrossAt}
+use Rattle.workmap.specs.declared.Map.{Map}
+
+-- rows whose starts stand from `at` on, one more than there are zones, and the rows behind them
+abbrev pub rows-at : ℕ → ℕ → RowsAt
+rows-at n at = record { zones = n; starts = at; rows = at + n + 1 }
+
+-- a search whose marks stand from `at` on, and its stack behind them
+abbrev pub search-at : ℕ → ℕ → SearchAt
+search-at n at = record { marks = at; stack = at + n }
+
+-- the finishing order
+abbrev pub order-at : ℕ → OrderAt
+order-at n = record { seen = 9 * n; next = 10 * n; order = 11 * n }
+
+-- the components
+abbrev pub names-at : ℕ → NamesAt
+names-at n = record { tops = 4 * n; names = 5 * n; low = 6 * n; roots = 7 * n; queue = 8 * n }
+
+-- the kinds
+abbrev pub kinds-at : ℕ → KindsAt
+kinds-at n = record { zones = n; names = 5 * n; entered = 2 * n; exited = 3 * n }
+
+-- the names of each kind
+abbrev pub lists-at : ℕ → ListsAt
+lists-at n = record { sources = 4 * n; sinks = 6 * n; alone = 7 * n }
+
+-- the pairs
+abbrev pub pairs-at : ℕ → PairsAt
+pairs-at n = record { firsts = 8 * n; seconds = 9 * n; lone = 10 * n }
+
+-- the links
+abbrev pub links-at : ℕ → LinksAt
+links-at n = record { stations = 2 * n; from = 0; to = n; why = 11 * n }
+
+-- the arcs out of a component
+abbrev pub cross-at : ℕ → CrossAt
+cross-at n = record { direct = 2 * n; chosen = 3 * n }
+
+-- the map of a network of n zones and m arcs
+abbrev pub map-of : ℕ → ℕ → Map
+map-of n m =
+    record {
+      zones = n;
+      arcs = m;
+      asked = asked-work n m;
+      rows = rows-at n (12 * n);
+      turned = rows-at n (13 * n + 1 + m);
+      search = search-at n 0;
+      back = search-at n (2 * n);
+      order = order-at n;
+      names = names-at n;
+      kinds = kinds-at n;
+      lists = lists-at n;
+      pairs = pairs-at n;
+      links = links-at n;
+      cross = cross-at n;
+    }
