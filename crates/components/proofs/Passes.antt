@@ -17,9 +17,10 @@ use Rattle.rules.specs.Calls.{arcs-of}
 use Rattle.rows.specs.Rows.{Entry, Run, rows-of}
 use Rattle.rows.proofs.ArcRows.{arcs-turned, between-turned}
 use Rattle.rows.proofs.ArrangedLaws.{arranged-sound, arranged-fits, arranged-entry, entry-arranged, reach-run}
-use Rattle.order.specs.Memory.{cell, Ready, Kept, Finished}
-use Rattle.rows.proofs.Regions.{at-kept, at-below}
-use Rattle.rows.proofs.Places.{take-shorter, drop-deeper}
+use Rattle.memory.specs.Regions.{cell}
+use Rattle.order.specs.Memory.{Ready, Kept, Finished}
+use Rattle.memory.proofs.Regions.{at-kept, at-below}
+use Rattle.memory.proofs.Places.{take-shorter, drop-deeper}
 use Rattle.theory.proofs.Ground.ArcLists.{arcs-length}
 use Rattle.theory.proofs.Reaching.Components.{name-is-name, names-zone, names-distinct}
 use Rattle.theory.proofs.Ground.Ascending.{run-in}

@@ -12,7 +12,7 @@ use Rattle.rules.specs.Components.{name, names}
 use Rattle.rules.specs.Calls.{arcs-of}
 use Rattle.rows.specs.Work.{starts-at, rows-at, turned-starts-at, turned-rows-at}
 use Rattle.rows.specs.Arranged.{Between, Arranged-at}
-use Rattle.order.specs.Memory.{cell}
+use Rattle.memory.specs.Regions.{cell}
 
 -- the names of all components
 abbrev pub tops-at : ℕ → ℕ

@@ -10,7 +10,8 @@ use Prim.Native.Nat.{ℕ, _+_, _-_, _≤_, _<_}
 use lib.ListN.{length, getD, take, drop}
 use Rattle.rows.specs.Rows.{Sound, Entry, rows-of}
 use Rattle.rows.specs.Marks.{zeros, Marked}
-use Rattle.order.specs.Memory.{cell, Finished}
+use Rattle.memory.specs.Regions.{cell}
+use Rattle.order.specs.Memory.{Finished}
 use Rattle.components.specs.Pass.{Mutual, Pass}
 use Rattle.components.specs.Gather.{Gather, Topo}
 

@@ -26,7 +26,7 @@ pub fn name_zones(work: &mut [u16], zones: usize, names: usize, low: usize, root
 {
     let mut v = 0;
     while v < zones {
-        let r = rows::wide(work[roots + v]) - 1;
+        let r = memory::wide(work[roots + v]) - 1;
         let x = note(work, low + r, v);
         work[names + v] = x;
         v += 1;

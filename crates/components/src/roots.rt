@@ -43,7 +43,7 @@ fn visit(
             }
             Found::At(i) => {
                 let h = work[a + i];
-                let m = marks + rows::wide(h);
+                let m = marks + memory::wide(h);
                 work[m] = root;
                 work[queue + top] = h;
                 top += 1;
@@ -72,9 +72,9 @@ fn drain(
     let mut head = from;
     let mut tail = from + 1;
     while head < tail {
-        let z = rows::wide(work[queue + head]);
-        let a = rows + rows::wide(work[starts + z]);
-        let b = rows + rows::wide(work[starts + z + 1]);
+        let z = memory::wide(work[queue + head]);
+        let a = rows + memory::wide(work[starts + z]);
+        let b = rows + memory::wide(work[starts + z + 1]);
         tail = visit(
             work,
             zones,
@@ -140,7 +140,7 @@ pub fn collect(
     let mut tail = 0;
     while 0 < k {
         k -= 1;
-        let z = rows::wide(work[order + k]);
+        let z = memory::wide(work[order + k]);
         tail = gather(work, zones, tstarts, trows, roots, queue, z, tail);
     }
 }

@@ -9,7 +9,7 @@ fn pick(work: &mut [u16], names: usize, at: usize, to: usize) -> usize
     ensures { λ r. ⌜ Picked (now (work .entry)) (now (work .exit)) names at to r ⌝ }
 {
     let q = work[at];
-    let n = names + rows::wide(q);
+    let n = names + memory::wide(q);
     if work[n] != q {
         return 0;
     }

@@ -17,9 +17,9 @@ use Rattle.theory.proofs.Reaching.Components.{Together, together-zone, name-tog
 use Rattle.theory.proofs.Skeletons.SkeletonLaws.{Joined, crosses-true, true-crosses}
 use Rattle.theory.proofs.Skeletons.SkeletonOrder.{Direct, Chosen, direct-zone, chosen-crosses, crosses-chosen}
 use Rattle.rows.specs.Marks.{Marked}
-use Rattle.rows.proofs.Regions.{at-below, at-kept}
+use Rattle.memory.proofs.Regions.{at-below, at-kept}
 use Rattle.search.specs.Marking.{Clear}
-use Rattle.rows.proofs.Places.{drop-deeper}
+use Rattle.memory.proofs.Places.{drop-deeper}
 use Rattle.crossings.specs.Named.{name-at, top-at, Named, Crossed}
 use Rattle.crossings.specs.Direct.{Led, Directable, Added}
 use Rattle.crossings.specs.Choosing.{Picked, Choosable, Choosing}

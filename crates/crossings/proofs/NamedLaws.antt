@@ -21,9 +21,9 @@ use Rattle.theory.proofs.Reaching.Components.{together-refl, name-lowest}
 use Rattle.rows.specs.Rows.{Entry}
 use Rattle.rows.specs.Work.{starts-at, rows-at}
 use Rattle.rows.proofs.ArrangedLaws.{arranged-kept, arranged-entry, entry-arranged, run-reach, reach-run}
-use Rattle.rows.proofs.Regions.{at-kept}
+use Rattle.memory.proofs.Regions.{at-kept}
 use Rattle.search.specs.Marking.{Laid}
-use Rattle.rows.proofs.Places.{drop-deeper}
+use Rattle.memory.proofs.Places.{drop-deeper}
 use Rattle.search.proofs.Laying.{arranged-laid}
 use Rattle.network.proofs.Memory.{arcs-within}
 use Rattle.crossings.specs.Named.{name-at, top-at, rows-in, Named}

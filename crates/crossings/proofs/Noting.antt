@@ -15,8 +15,8 @@ use lib.ListN.{length, getD, drop, set, length-set}
 use lib.Seq.{take-set-le, drop-set-lt}
 use Rattle.rows.specs.Work.{starts-at, rows-at}
 use Rattle.rows.proofs.Zeros.{below?}
-use Rattle.rows.proofs.Regions.{at-kept}
-use Rattle.rows.proofs.Places.{drop-deeper}
+use Rattle.memory.proofs.Regions.{at-kept}
+use Rattle.memory.proofs.Places.{drop-deeper}
 use Rattle.search.proofs.Course.{laid-same}
 use Rattle.search.proofs.Keeping.{head-at, start-at, stop-at}
 use Rattle.crossings.specs.Named.{name-at, rows-in}

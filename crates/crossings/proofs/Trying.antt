@@ -14,9 +14,9 @@ use Rattle.rows.specs.Rows.{Sound, rows-of}
 use Rattle.rows.specs.Marks.{Marked}
 use Rattle.rows.specs.Work.{starts-at, rows-at}
 use Rattle.rows.proofs.Zeros.{below?}
-use Rattle.rows.proofs.Regions.{at-kept}
+use Rattle.memory.proofs.Regions.{at-kept}
 use Rattle.search.specs.Marking.{Closed, Searchable, Searched}
-use Rattle.rows.proofs.Places.{drop-deeper}
+use Rattle.memory.proofs.Places.{drop-deeper}
 use Rattle.search.proofs.Closed.{closed-run, clear-closed}
 use Rattle.search.proofs.Course.{laid-same}
 use Rattle.crossings.specs.Named.{top-at}

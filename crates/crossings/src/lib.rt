@@ -7,7 +7,7 @@ ghost use Rattle.crossings.specs.Direct.{Out, Leads, Led, Directable, Ad
 ghost use Rattle.crossings.specs.Choosing.{Triable, Tried, Choosable, Choosing};
 ghost use Rattle.crossings.specs.Named.{Named, Crossed};
 ghost use Prim.Native.Nat.{_*_, _<_};
-use rows::wide;
+use memory::wide;
 use search::search;
 
 // Marks the name of the zone `head`, where it is another than `a`.

@@ -17,9 +17,9 @@ use lib.Seq.{sets, length-sets}
 use Rattle.rules.specs.Lists.{run, keep}
 use Rattle.rules.specs.Answers.{yes-number}
 use Rattle.theory.proofs.Ground.Storing.{sets-append}
-use Rattle.rows.specs.Storing.{Stored}
-use Rattle.rows.proofs.Stores.{getD-sets-low, getD-sets-high}
-use Rattle.order.specs.Memory.{cell}
+use Rattle.memory.specs.Storing.{Stored}
+use Rattle.memory.proofs.Stores.{getD-sets-low, getD-sets-high}
+use Rattle.memory.specs.Regions.{cell}
 use Rattle.theory.proofs.Ground.Bools.{bool-cases}
 use Rattle.theory.proofs.Ground.Lists.{keep-hit, keep-miss, keep-agree}
 use Rattle.theory.proofs.Ground.Ascending.{run-in}

@@ -13,9 +13,9 @@ use Rattle.rules.specs.Lists.{run, keep}
 use Rattle.rules.specs.Network.{Network, network-of}
 use Rattle.rules.specs.Components.{name, sources, sinks, alone}
 use Rattle.rules.specs.Calls.{arcs-of}
-use Rattle.rows.specs.Regions.{Holds}
-use Rattle.rows.proofs.Stores.{drop-sets, sets-holds, holds-sets}
-use Rattle.order.specs.Memory.{cell}
+use Rattle.memory.specs.Regions.{Holds}
+use Rattle.memory.proofs.Stores.{drop-sets, sets-holds, holds-sets}
+use Rattle.memory.specs.Regions.{cell}
 use Rattle.kinds.specs.declared.Counts.{Counts}
 use Rattle.kinds.specs.Kinds.{own-kind, Kinds}
 use Rattle.kinds.proofs.Marks.{names-around, room-around}

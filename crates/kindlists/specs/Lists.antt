@@ -10,7 +10,7 @@ use Prim.Native.Nat.{ℕ, _+_, _*_, _≤_, _<_}
 use lib.ListN.{length, drop}
 use Rattle.rules.specs.Network.{Network}
 use Rattle.rules.specs.Components.{sources, sinks, alone}
-use Rattle.rows.specs.Regions.{Holds}
+use Rattle.memory.specs.Regions.{Holds}
 use Rattle.kinds.specs.Kinds.{Room, Nameful}
 use Rattle.kinds.specs.declared.Counts.{Counts}
 

@@ -9,7 +9,7 @@ ghost use lib.Seq.{sets};
 ghost use Rattle.rules.specs.Lists.{run, keep};
 ghost use Rattle.rules.specs.Network.{network-of};
 ghost use Rattle.rules.specs.Calls.{arcs-of};
-ghost use Rattle.rows.specs.Storing.{Stored};
+ghost use Rattle.memory.specs.Storing.{Stored};
 ghost use Rattle.kinds.specs.Kinds.{own-kind};
 ghost use Rattle.kindlists.specs.Lists.{Tryable, Listable, Nameable, Listed};
 

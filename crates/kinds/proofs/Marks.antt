@@ -18,8 +18,8 @@ use Rattle.rules.specs.Network.{_⟶_}
 use Rattle.rules.specs.Calls.{arcs-of}
 use Rattle.rows.proofs.Zeros.{same?}
 use Rattle.rows.proofs.ArcRows.{arcs-more}
-use Rattle.order.specs.Memory.{cell}
-use Rattle.rows.proofs.Regions.{at-kept}
+use Rattle.memory.specs.Regions.{cell}
+use Rattle.memory.proofs.Regions.{at-kept}
 use Rattle.kinds.specs.Kinds.{comes, goes, raised, Around, Room, Noted, Marking, Markable}
 use Rattle.kinds.proofs.Tests.{raised-one}
 

@@ -18,7 +18,7 @@ use Rattle.rules.specs.Lists.{any, keep, run}
 use Rattle.rules.specs.Network.{Arc, Network, network-of, Proper}
 use Rattle.rules.specs.Components.{together, name, is-name, names, entered, left, sources, sinks, alone}
 use Rattle.rules.specs.Answers.{yes-number}
-use Rattle.order.specs.Memory.{cell}
+use Rattle.memory.specs.Regions.{cell}
 use Rattle.theory.proofs.Ground.ArcLists.{arcs-length}
 use Rattle.theory.proofs.Ground.Bools.{bool-cases, bool-agree}
 use Rattle.theory.proofs.Ground.Lists.{any-agree, keep-agree, in-keep}

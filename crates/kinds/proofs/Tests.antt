@@ -20,7 +20,7 @@ use Rattle.theory.proofs.Ground.Bools.{bool-cases}
 use Rattle.theory.proofs.Ground.Lists.{any-hit, any-miss, keep-hit, keep-miss}
 use Rattle.theory.proofs.Ground.Counting.{keep-length}
 use Rattle.theory.proofs.Ground.Ascending.{run-length}
-use Rattle.order.specs.Memory.{cell}
+use Rattle.memory.specs.Regions.{cell}
 use Rattle.kinds.specs.Kinds.{raised, own-kind}
 
 -- A test's 1 or 0 is raised to 1, or kept.

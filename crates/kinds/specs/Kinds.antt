@@ -18,7 +18,7 @@ use Rattle.rules.specs.Components.{name, names, entered, left, sources, sinks, 
 use Rattle.rules.specs.Calls.{arcs-of}
 use Rattle.rules.specs.Answers.{yes-number}
 use Rattle.rows.specs.Arranged.{Between}
-use Rattle.order.specs.Memory.{cell}
+use Rattle.memory.specs.Regions.{cell}
 use Rattle.components.specs.Components.{names-at}
 use Rattle.kinds.specs.declared.Counts.{Counts}
 

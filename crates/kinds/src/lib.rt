@@ -23,10 +23,10 @@ fn note(work: &mut [u16], zones: usize, tail: u16, head: u16)
     requires { ⌜ Room (now work) zones × ((tail < zones) × (head < zones)) ⌝ }
     ensures { λ _. ⌜ Noted (now (work .entry)) (now (work .exit)) zones tail head ⌝ }
 {
-    let t = 5 * zones + rows::wide(tail);
-    let h = 5 * zones + rows::wide(head);
-    let a = rows::wide(work[t]);
-    let b = rows::wide(work[h]);
+    let t = 5 * zones + memory::wide(tail);
+    let h = 5 * zones + memory::wide(head);
+    let a = memory::wide(work[t]);
+    let b = memory::wide(work[h]);
     if a == b {
         return;
     }
@@ -52,7 +52,7 @@ pub fn kind(work: &[u16], zones: usize, z: usize, x: u16, y: u16) -> usize
     requires { ⌜ Room (now work) zones × (z < zones) ⌝ }
     ensures { λ r. ⌜ r ≡ yes-number (own-kind (now (work .entry)) zones x y z) ⌝ }
 {
-    let n = rows::wide(work[5 * zones + z]);
+    let n = memory::wide(work[5 * zones + z]);
     if n != z {
         return 0;
     }

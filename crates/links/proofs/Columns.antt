@@ -16,13 +16,13 @@ use native.Mathlib.Omega.{arith}
 use lib.ListN.{length, drop, replicate, length-append, length-map}
 use lib.Seq.{sets, length-sets}
 use Rattle.rules.specs.Plan.{Why, why-number, Link}
-use Rattle.rows.specs.Regions.{part, Holds}
-use Rattle.rows.proofs.Regions.{part-long}
+use Rattle.memory.specs.Regions.{part, Holds}
+use Rattle.memory.proofs.Regions.{part-long}
 use Rattle.links.specs.declared.Counts.{Counts}
 use Rattle.links.specs.declared.Places.{Places}
 use Rattle.links.specs.Stores.{Copied, Joinable, Joined}
 use Rattle.links.specs.Linking.{Linkable}
-use Rattle.rows.proofs.Stores.{drop-sets, part-sets, holds-sets, holds-more}
+use Rattle.memory.proofs.Stores.{drop-sets, part-sets, holds-sets, holds-more}
 use Rattle.links.proofs.Shapes.{joins, joins-start, joins-end, joins-why, joins-long}
 
 -- where a link starts, where it ends, and the number of its why

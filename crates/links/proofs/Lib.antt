@@ -1,5 +1,4 @@
 -- Laws of stores one behind the other, and of the lists of links.
-pub mod Runs
 pub mod Shapes
 pub mod Pieces
 pub mod Columns

@@ -15,13 +15,13 @@ use lib.ListN.{length, take, drop, length-append}
 use lib.Seq.{sets, take-append-le}
 use Rattle.rules.specs.Plan.{Couple, last-sink, first-of, middle, stations}
 use Rattle.theory.proofs.Ground.Storing.{sets-append}
-use Rattle.rows.specs.Regions.{part}
-use Rattle.rows.proofs.Regions.{part-long, part-take, part-drop, part-kept}
+use Rattle.memory.specs.Regions.{part}
+use Rattle.memory.proofs.Regions.{part-long, part-take, part-drop, part-kept}
 use Rattle.links.specs.declared.Counts.{Counts}
 use Rattle.links.specs.declared.Places.{Places}
-use Rattle.links.specs.Stores.{Copied}
+use Rattle.memory.specs.Storing.{Copied}
 use Rattle.links.specs.Linking.{couples, stations-in, first-at, Placed, Stationed}
-use Rattle.rows.proofs.Stores.{drop-sets}
+use Rattle.memory.proofs.Stores.{drop-sets}
 use Rattle.links.proofs.Shapes.{couples-v, last-sink-drop, first-of-take}
 
 -- the front of one element of a part, where it has one

@@ -7,7 +7,7 @@ use mathlib.Core.List.{List, map}
 use Prim.Native.Nat.{ℕ}
 use lib.ListN.{length, length-map}
 use Rattle.rules.specs.Plan.{Couple, Ordering, links}
-use Rattle.rows.specs.Regions.{part, Holds}
+use Rattle.memory.specs.Regions.{part, Holds}
 use Rattle.links.specs.declared.Counts.{Counts}
 use Rattle.links.specs.declared.Places.{Places}
 use Rattle.links.specs.Linking.{links-in, Held}

@@ -11,14 +11,14 @@ use native.Mathlib.Omega.{arith}
 use lib.ListN.{length, take, drop, length-append}
 use lib.Seq.{length-sets}
 use Rattle.rules.specs.Plan.{ring, chain, back, rings, chains, backs, stations, links}
-use Rattle.rows.specs.Regions.{part}
-use Rattle.rows.proofs.Regions.{part-long, part-take, part-drop, part-kept}
+use Rattle.memory.specs.Regions.{part}
+use Rattle.memory.proofs.Regions.{part-long, part-take, part-drop, part-kept}
 use Rattle.links.specs.declared.Counts.{Counts}
 use Rattle.links.specs.declared.Places.{Places}
 use Rattle.links.specs.Stores.{Joinable, Joined}
 use Rattle.links.specs.Linking.{couples, stations-in, links-in}
 use Rattle.links.specs.Linking.{Placed, Stationed, Linkable, Linked}
-use Rattle.rows.proofs.Stores.{drop-sets, sets-holds}
+use Rattle.memory.proofs.Stores.{drop-sets, sets-holds}
 use Rattle.links.proofs.Shapes.{rings-joins, chains-joins, backs-joins}
 use Rattle.links.proofs.Pieces.{as-many, stations-long}
 use Rattle.links.proofs.Columns.{Row-of, row-joins, Inside, Wrote, wrote-none, wrote-more, joinable}

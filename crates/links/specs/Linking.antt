@@ -13,7 +13,7 @@ use Prim.Native.Nat.{ℕ, zero, suc, _+_, _*_, _-_, _≤_, _<_}
 use lib.ListN.{length, drop}
 use lib.Seq.{sets}
 use Rattle.rules.specs.Plan.{Couple, Ordering, Link, why-number, stations, links}
-use Rattle.rows.specs.Regions.{part, Holds}
+use Rattle.memory.specs.Regions.{part, Holds}
 use Rattle.links.specs.declared.Counts.{Counts}
 use Rattle.links.specs.declared.Places.{Places}
 

@@ -1,23 +1,13 @@
--- What copying in work memory and putting links of one why ask and leave. `sets l i xs` is the list l after stores of
--- the elements of xs, one behind the other, from index i on.
---   Copyable, Copied   n elements go to lower places
+-- What putting links of one why asks and leaves. `sets l i xs` is the list l after stores of the elements of xs, one
+-- behind the other, from index i on.
 --   Joinable, Joined   n links of one why go behind the first `at` links, where the places tell
 use mathlib.Core.Path.{_≡_}
 use mathlib.Core.List.{List}
 use Prim.Native.Nat.{ℕ, _+_, _≤_}
 use lib.ListN.{length, replicate}
 use lib.Seq.{sets}
-use Rattle.rows.specs.Regions.{part}
+use Rattle.memory.specs.Regions.{part}
 use Rattle.links.specs.declared.Places.{Places}
-
--- n elements can be copied to lower places: the two stretches do not meet
-pub record Copyable (w : List ℕ) (from n to : ℕ) : Type 0 where
-  pub apart : to + n ≤ from
-  pub fits : from + n ≤ length w
-
--- they are copied, and nothing else is changed
-pub record Copied (w w' : List ℕ) (from n to : ℕ) : Type 0 where
-  pub is : w' ≡ sets w to (part w from n)
 
 -- n links can be put behind the first `at`: starts and ends lie below what is copied, and there is room for the whys
 pub record Joinable (w : List ℕ) (p : Places) (a b n at : ℕ) : Type 0 where

@@ -2,12 +2,10 @@
 // stand there too, and the chain's stations are put there on the way.
 ghost use mathlib.Core.Path.{_≡_};
 ghost use Prim.Native.Nat.{_+_, _-_, _≤_, min};
-ghost use lib.ListN.{length, replicate};
-ghost use lib.Seq.{sets};
-ghost use Rattle.rules.specs.Lists.{over};
-ghost use Rattle.rows.specs.Regions.{part};
-ghost use Rattle.links.specs.Stores.{Copyable, Copied, Joinable, Joined};
+ghost use Rattle.links.specs.Stores.{Joinable, Joined};
 ghost use Rattle.links.specs.Linking.{first-at, Placed, Stationed, Linkable, Linked};
+use memory::copy;
+use memory::fill;
 
 // How many elements each list has: the pairs' sources and sinks, the lone sources, the lone sinks, the zones alone.
 pub struct Counts {
@@ -36,30 +34,6 @@ fn one_of(n: usize) -> usize
     ensures { λ r. ⌜ r ≡ min 1 n ⌝ }
 {
     if 0 < n { 1 } else { 0 }
-}
-
-// Copies n elements of the work memory, from the place `from` on, to lower places, from `to` on.
-fn copy(work: &mut [u16], from: usize, n: usize, to: usize)
-    requires { ⌜ Copyable (now work) from n to ⌝ }
-    ensures { λ r. ⌜ Copied (now (work .entry)) (now (work .exit)) from n to ⌝ }
-{
-    let mut i = 0;
-    while i < n {
-        work[to + i] = work[from + i];
-        i += 1;
-    }
-}
-
-// Stores a number n times, from the place `at` on.
-fn fill(work: &mut [u16], at: usize, n: usize, x: u16)
-    requires { ⌜ at + n ≤ length (now work) ⌝ }
-    ensures { λ r. ⌜ now (work .exit) ≡ sets (now (work .entry)) at (replicate n x) ⌝ }
-{
-    let mut i = 0;
-    while i < n {
-        work[at + i] = x;
-        i += 1;
-    }
 }
 
 // Puts n links of one why behind the first `at` links, from the elements from place `a` on to those from place `b` on.
@@ -117,16 +91,4 @@ pub fn put_links(work: &mut [u16], zones: usize, n: Counts, p: Places) -> usize
     join(work, p, q, q + 1, chain, 1, rings);
     join(work, p, p.sinks, p.sources, n.sources, 2, at);
     at + n.sources
-}
-
-// Copies n elements of the work memory, from the place `at` on, to the front of a lent list.
-pub fn copy_out(work: &[u16], at: usize, n: usize, out: &mut [u16])
-    requires { ⌜ (at + n ≤ length (now work)) × (n ≤ length (now out)) ⌝ }
-    ensures { λ r. ⌜ now (out .exit) ≡ over (part (now (work .entry)) at n) (now (out .entry)) ⌝ }
-{
-    let mut i = 0;
-    while i < n {
-        out[i] = work[at + i];
-        i += 1;
-    }
 }

@@ -14,8 +14,9 @@ use lib.Seq.{getD-set-same, getD-set-other, getD-drop, drop-set-lt, take-set-le}
 use Rattle.rows.specs.Marks.{zeros, Marked, First-in}
 use Rattle.rows.specs.declared.Found.the-variants.{At, Nothing}
 use Rattle.rows.proofs.Zeros.{zeros-other, zeros-mark}
-use Rattle.order.specs.Memory.{cell, Ready, State, Kept, Full}
-use Rattle.rows.proofs.Places.{behind}
+use Rattle.memory.specs.Regions.{cell}
+use Rattle.order.specs.Memory.{Ready, State, Kept, Full}
+use Rattle.memory.proofs.Places.{behind}
 use Rattle.order.proofs.Plain.Push.{deeper}
 
 -- a list after three stores

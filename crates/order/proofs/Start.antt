@@ -14,9 +14,10 @@ use Rattle.rows.specs.Rows.{rows-of}
 use Rattle.rows.specs.Marks.{zeros, Marked}
 use Rattle.rows.proofs.Zeros.{same?, zeros-other, zeros-mark, zeros-none, zeros-clear}
 use Rattle.order.specs.Deep.{Deep}
-use Rattle.order.specs.Memory.{cell, Ready, State, Kept, Finished, Copied}
-use Rattle.rows.proofs.Regions.{at-kept, at-below}
-use Rattle.rows.proofs.Places.{drop-deeper, take-shorter}
+use Rattle.memory.specs.Regions.{cell}
+use Rattle.order.specs.Memory.{Ready, State, Kept, Finished, Copied}
+use Rattle.memory.proofs.Regions.{at-kept, at-below}
+use Rattle.memory.proofs.Places.{drop-deeper, take-shorter}
 use Rattle.order.proofs.Keeping.{ready-kept, spans}
 use Rattle.order.proofs.Plain.Push.{push}
 use Rattle.order.proofs.Plain.Pop.{deep-begun, deep-stands}

@@ -9,7 +9,8 @@ use lib.ListN.{getD, set, drop, length-set}
 use lib.Seq.{getD-set-same, getD-set-other, drop-set-lt, take-set-le}
 use Rattle.rows.specs.Marks.{zeros}
 use Rattle.rows.proofs.Zeros.{zeros-other}
-use Rattle.order.specs.Memory.{cell, Ready, State, Kept, Full}
+use Rattle.memory.specs.Regions.{cell}
+use Rattle.order.specs.Memory.{Ready, State, Kept, Full}
 use Rattle.order.proofs.Keeping.{spans}
 use Rattle.order.proofs.Plain.Pop.{pop}
 

@@ -10,12 +10,9 @@ use Prim.Native.Nat.{ℕ, _+_, _-_, _≤_, _<_}
 use lib.ListN.{length, getD, take, drop}
 use Rattle.rows.specs.Rows.{Sound, Entry, rows-of}
 use Rattle.rows.specs.Marks.{zeros, Marked}
+use Rattle.memory.specs.Regions.{cell}
 use Rattle.order.specs.Order.{Ordered, Stands}
 use Rattle.order.specs.Deep.{Deep}
-
--- element i of the region that begins at `at`
-abbrev pub cell : List ℕ → ℕ → ℕ → ℕ
-cell w at i = getD w (at + i) 0
 
 -- the regions lie one behind the other, inside the memory, and the rows are sound
 pub record Ready (w : List ℕ) (zones starts rows marks next order : ℕ) : Type 0 where

@@ -9,7 +9,8 @@
 ghost use mathlib.Core.Path.{_≡_};
 ghost use Prim.Native.Nat.{ℕ, _+_, _-_, _≤_, _<_};
 ghost use lib.ListN.{length};
-ghost use Rattle.order.specs.Memory.{cell, Ready, State, Kept, Full, Went, Begun, Finished, Copied};
+ghost use Rattle.memory.specs.Regions.{cell};
+ghost use Rattle.order.specs.Memory.{Ready, State, Kept, Full, Went, Begun, Finished, Copied};
 use rows::Found;
 
 // Goes down from the top of the stack along unmarked zones. Answers where the new top is: all its heads have marks.
@@ -31,9 +32,9 @@ fn descend(
 {
     let mut hi = from;
     loop {
-        let z = rows::wide(work[order + hi]);
-        let a = rows + rows::wide(work[next + z]);
-        let b = rows + rows::wide(work[starts + z + 1]);
+        let z = memory::wide(work[order + hi]);
+        let a = rows + memory::wide(work[next + z]);
+        let b = rows + memory::wide(work[starts + z + 1]);
         match rows::step(work, a, b, marks, zones) {
             Found::Nothing => {
                 return hi;
@@ -41,7 +42,7 @@ fn descend(
             Found::At(i) => {
                 let h = work[a + i];
                 work[next + z] = (a + i + 1 - rows) as u16;
-                let m = marks + rows::wide(h);
+                let m = marks + memory::wide(h);
                 work[m] = (lo + (zones - hi) + 1) as u16;
                 hi -= 1;
                 work[order + hi] = h;

@@ -15,11 +15,11 @@ use lib.ListN.{length, getD, drop, set, length-set, length-append, length-drop}
 use lib.Seq.{ext-getD, getD-drop, getD-set-other}
 use Rattle.rules.specs.Network.{Arc}
 use Rattle.rules.specs.Plan.{pick}
-use Rattle.rows.specs.Regions.{part, Holds}
+use Rattle.memory.specs.Regions.{part, Holds}
 use Rattle.rows.specs.Arranged.{Between, Arranged-at}
 use Rattle.rows.specs.declared.Found.{Found}
 use Rattle.rows.specs.declared.Found.the-variants.{At, Nothing}
-use Rattle.rows.proofs.Regions.{part-long, holds-part, holds-at, holds-apart, holds-none, holds-snoc, holds-store}
+use Rattle.memory.proofs.Regions.{part-long, holds-part, holds-at, holds-apart, holds-none, holds-snoc, holds-store}
 use Rattle.rows.proofs.ArrangedLaws.{arranged-kept}
 use Rattle.search.specs.Marking.{Laid}
 use Rattle.search.proofs.Course.{laid-same}

@@ -12,8 +12,8 @@ use native.Mathlib.Nat.{not-suc-le-zero}
 use native.Mathlib.Omega.{arith}
 use lib.ListN.{length, getD, set, length-set, length-take, length-drop, length-append}
 use lib.Seq.{getD-set-same, getD-set-other}
-use Rattle.rows.specs.Regions.{Holds}
-use Rattle.rows.proofs.Regions.{holds-of, holds-at, holds-fits}
+use Rattle.memory.specs.Regions.{Holds}
+use Rattle.memory.proofs.Regions.{holds-of, holds-at, holds-fits}
 use Rattle.rows.proofs.Zeros.{below?, same?}
 use Rattle.pairing.specs.Turn.{Taken-out, without, All-below}
 

@@ -21,10 +21,10 @@ use Rattle.theory.proofs.Ground.Bools.{false-unless}
 use Rattle.theory.proofs.Reaching.Reach.{reaches-sound, reaches-complete}
 use Rattle.theory.proofs.Ground.Ascending.{network-proper}
 use Rattle.rows.specs.Marks.{Marked}
-use Rattle.rows.specs.Regions.{part, Holds}
+use Rattle.memory.specs.Regions.{part, Holds}
 use Rattle.rows.specs.Arranged.{Between, Arranged-at}
 use Rattle.rows.specs.declared.Found.the-variants.{At, Nothing}
-use Rattle.rows.proofs.Regions.{part-long, holds-part, holds-at, holds-apart}
+use Rattle.memory.proofs.Regions.{part-long, holds-part, holds-at, holds-apart}
 use Rattle.rows.proofs.ArrangedLaws.{arranged-kept, run-reach, reach-run}
 use Rattle.search.specs.Marking.{Searchable, Searched}
 use Rattle.search.proofs.Closed.{clear-closed, searched-clear}

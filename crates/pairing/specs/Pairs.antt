@@ -17,7 +17,7 @@ use Prim.Native.Nat.{ℕ, _+_, _≤_, _<_}
 use lib.ListN.{length, getD, drop}
 use Rattle.rules.specs.Network.{Arc, network-of, reaches}
 use Rattle.rules.specs.Plan.{Couple, Ordering, pairing}
-use Rattle.rows.specs.Regions.{part, Holds}
+use Rattle.memory.specs.Regions.{part, Holds}
 use Rattle.rows.specs.Arranged.{Between, Arranged-at}
 use Rattle.search.specs.Marking.{Laid}
 use Rattle.pairing.specs.Turn.{Outside, All-below}

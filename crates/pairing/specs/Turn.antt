@@ -14,7 +14,7 @@ use lib.ListN.{length, getD, take, drop}
 use Rattle.rules.specs.Network.{Arc, network-of, reaches}
 use Rattle.rules.specs.Plan.{Picked, pick}
 use Rattle.rows.specs.Marks.{Marked}
-use Rattle.rows.specs.Regions.{part, Holds}
+use Rattle.memory.specs.Regions.{part, Holds}
 use Rattle.rows.specs.Arranged.{Between, Arranged-at}
 use Rattle.rows.specs.declared.Found.{Found}
 use Rattle.rows.specs.declared.Found.the-variants.{At, Nothing}

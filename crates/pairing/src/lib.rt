@@ -1,8 +1,8 @@
 // Points 1 and 2 of the plan rule, in lent work memory: each source in turn takes the lowest sink that it reaches and
 // that is still unpaired, or stays unpaired. One search a source; a search takes no sink but the one that it pairs.
+use memory::clear;
+use memory::wide;
 use rows::Found;
-use rows::clear;
-use rows::wide;
 use search::search;
 ghost use mathlib.Core.List.{List};
 ghost use Prim.Native.Nat.{ℕ, _+_, _≤_, _<_};

@@ -18,7 +18,7 @@ use Rattle.rules.specs.Answers.{trouble-refusal}
 use Rattle.rules.specs.Plan.{Link, why-number, plan}
 use Rattle.rules.specs.Calls.{network-tests, room-test, asked-work, handed, plan-trouble, plan-says}
 use Rattle.rules.specs.Calls.{plan-leaves-work, plan-leaves-from, plan-leaves-to, plan-leaves-why}
-use Rattle.rows.specs.Regions.{part, Holds}
+use Rattle.memory.specs.Regions.{part, Holds}
 use Rattle.tests.proofs.Troubles.{passes, both-pass}
 use Rattle.tests.proofs.Fine.{fine}
 use Rattle.network.specs.Ready.{Readyable}

@@ -16,8 +16,8 @@ use borrow.Author.Tests.{le-leb}
 use Rattle.rules.specs.Network.{Arc, Network, network-of, Proper}
 use Rattle.rules.specs.Components.{names, sources, sinks, alone}
 use Rattle.rules.specs.Plan.{is-upright, ordering, upright-plan}
-use Rattle.rows.specs.Regions.{part, Holds}
-use Rattle.rows.proofs.Regions.{holds-apart}
+use Rattle.memory.specs.Regions.{part, Holds}
+use Rattle.memory.proofs.Regions.{holds-apart}
 use Rattle.rows.proofs.ArrangedLaws.{at-in}
 use Rattle.search.proofs.Laying.{arranged-laid}
 use Rattle.theory.proofs.Ground.Ascending.{run-in, network-proper}

@@ -24,8 +24,8 @@ use Rattle.rules.specs.Plan.{Link, why-number, turned-link, is-upright, upright
 use Rattle.rules.specs.Plan.{plan, plan-pairs, plan-need}
 use Rattle.rules.specs.Calls.{arcs-of, handed, asked-work}
 use Rattle.tests.proofs.Fine.{fine-proper}
-use Rattle.rows.specs.Regions.{Holds}
-use Rattle.rows.proofs.Places.{drop-deeper}
+use Rattle.memory.specs.Regions.{Holds}
+use Rattle.memory.proofs.Places.{drop-deeper}
 use Rattle.theory.proofs.Ground.ArcLists.{arcs-length}
 use Rattle.theory.proofs.Ground.Bools.{bool-cases}
 use Rattle.theory.proofs.Ground.Ascending.{in-run}

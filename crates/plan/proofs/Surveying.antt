@@ -11,8 +11,8 @@ use lib.ListN.{length, getD}
 use Rattle.rules.specs.Network.{network-of}
 use Rattle.rules.specs.Calls.{arcs-of, asked-work}
 use Rattle.rows.specs.Work.{starts-at}
-use Rattle.rows.proofs.Regions.{at-below}
-use Rattle.rows.proofs.Places.{drop-deeper}
+use Rattle.memory.proofs.Regions.{at-below}
+use Rattle.memory.proofs.Places.{drop-deeper}
 use Rattle.network.specs.Ready.{Readyable, Readied}
 use Rattle.network.proofs.Memory.{arcs-within, standing-kept, readied-zero}
 use Rattle.components.specs.Components.{Lent, Components}

@@ -12,7 +12,7 @@ use lib.ListN.{length, drop}
 use Rattle.rules.specs.Network.{Arc, Network, network-of, strong}
 use Rattle.rules.specs.Components.{sources, sinks, alone}
 use Rattle.rules.specs.Plan.{Link, why-number, ordering, upright-plan}
-use Rattle.rows.specs.Regions.{Holds}
+use Rattle.memory.specs.Regions.{Holds}
 use Rattle.rows.specs.Arranged.{Between, Arranged-at}
 use Rattle.kindlists.specs.Lists.{sources-at, sinks-at, alone-at}
 use Rattle.links.specs.declared.Counts.{Counts}

@@ -12,7 +12,7 @@ use Rattle.rules.specs.Components.{sources, sinks, alone}
 use Rattle.rules.specs.Plan.{Link, why-number, plan, plan-pairs, plan-need}
 use Rattle.rules.specs.Calls.{handed, asked-work, plan-says, plan-leaves-work}
 use Rattle.rules.specs.Calls.{plan-leaves-from, plan-leaves-to, plan-leaves-why}
-use Rattle.rows.specs.Regions.{Holds}
+use Rattle.memory.specs.Regions.{Holds}
 use Rattle.kinds.specs.declared.Counts.{Counts}
 use Rattle.plan.specs.declared.Connection.{Connection}
 use Rattle.plan.specs.declared.Layout.{Layout}

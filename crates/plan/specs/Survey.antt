@@ -7,7 +7,7 @@ use lib.ListN.{length}
 use Rattle.rules.specs.Network.{network-of}
 use Rattle.rules.specs.Components.{sources, sinks, alone}
 use Rattle.rules.specs.Calls.{arcs-of}
-use Rattle.rows.specs.Regions.{Holds}
+use Rattle.memory.specs.Regions.{Holds}
 use Rattle.network.specs.Ready.{Standing}
 use Rattle.kinds.specs.declared.Counts.{Counts}
 use Rattle.kindlists.specs.Lists.{sources-at, sinks-at, alone-at}

@@ -2,14 +2,14 @@
 // `lay` leaves the plan in the work memory; it and the tests are for the call over link structs, too.
 use components::name_all;
 use kindlists::list_kinds;
-use links::copy_out;
 use links::put_links;
+use memory::clear;
+use memory::copy_out;
 use network::asked_work;
 use network::ready;
 use network::room_trouble;
 use network::work_trouble;
 use pairing::pair;
-use rows::clear;
 use rules::PlanAnswer;
 use tests::Tested;
 ghost use mathlib.Core.Path.{_≡_};

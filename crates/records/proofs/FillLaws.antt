@@ -16,8 +16,8 @@ use lib.Dec.{T, eqb}
 use lib.ListN.{length, getD, set, take, drop, length-set, length-map}
 use Rattle.rules.specs.Plan.{ring, chain, back, why-number}
 use Rattle.rules.specs.Plan as Plan
-use Rattle.rows.specs.Regions.{Holds}
-use Rattle.rows.proofs.Regions.{holds-at}
+use Rattle.memory.specs.Regions.{Holds}
+use Rattle.memory.proofs.Regions.{holds-at}
 use Rattle.records.specs.declared.Why.{Why}
 use Rattle.records.specs.declared.Link.{Link}
 use Rattle.records.specs.Filling.{why-of, record-of, why-numbered, link-at, filled}

@@ -5,10 +5,10 @@ ghost use Prim.Native.Nat.{_+_, _*_, _≤_, _<_};
 ghost use lib.ListN.{length};
 ghost use Rattle.records.specs.Filling.{why-numbered, Readable, link-at, filled, need-of, Finishable, finished};
 ghost use Rattle.records.specs.Promise.{Planned, Records-promise};
+use memory::clear;
 use network::asked_work;
 use plan::lay;
 use plan::plan_trouble;
-use rows::clear;
 use rules::PlanAnswer;
 use tests::Tested;
 

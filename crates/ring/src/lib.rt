@@ -3,7 +3,7 @@
 ghost use Prim.Native.Nat.{_*_, _<_};
 ghost use Rattle.crossings.specs.Named.{name-at};
 ghost use Rattle.ring.specs.Ring.{Ringable, First-above, Ring-next, Ringed};
-use rows::wide;
+use memory::wide;
 
 // The first zone above `a` with the name, or the zone count where there is none.
 fn next_above(work: &[u16], zones: usize, a: usize, name: u16) -> usize

@@ -2,6 +2,5 @@
 pub mod Rows
 pub mod Marks
 pub mod Work
-pub mod Regions
 pub mod Arranged
 pub mod Storing

@@ -9,9 +9,9 @@ use Prim.Native.Nat.{ℕ, _+_, _-_, _≤_, _<_}
 use native.Mathlib.Omega.{arith}
 use lib.ListN.{getD, take, drop, set, length-set}
 use lib.Seq.{getD-drop, take-set-le, take-set-lt, drop-set-lt}
-use Rattle.rows.proofs.Places.{drop-deeper}
+use Rattle.memory.proofs.Places.{drop-deeper}
 use Rattle.rows.specs.Rows.{rows-of}
-use Rattle.rows.proofs.Regions.{at-kept}
+use Rattle.memory.proofs.Regions.{at-kept}
 use Rattle.search.specs.Marking.{Kept}
 
 -- nothing changes

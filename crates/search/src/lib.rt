@@ -1,8 +1,8 @@
 // The search over arranged rows, in lent work memory: marks, then a stack, then the rows. It marks every zone that a
 // run of entries leads to, and looks once at each entry of each row that it comes to.
+use memory::wide;
 use rows::Found;
 use rows::step;
-use rows::wide;
 ghost use Rattle.search.specs.Marking.{Visitable, Visited, Laid, Searching, Searchable, Searched};
 
 // Marks the unmarked zones of the row from `from` up to `to` and puts them on the stack; answers the stack's height.

@@ -19,7 +19,7 @@ use Rattle.theory.proofs.Ground.Counting.{keep-length}
 use Rattle.theory.proofs.Reaching.Components.{names-zone}
 use Rattle.rows.specs.Work.{starts-at}
 use Rattle.rows.proofs.ArrangedLaws.{arranged-kept}
-use Rattle.rows.proofs.Places.{drop-deeper}
+use Rattle.memory.proofs.Places.{drop-deeper}
 use Rattle.network.specs.Ready.{Readyable, Readied}
 use Rattle.network.proofs.Memory.{arcs-within, readied-zero, cleared-back}
 use Rattle.components.specs.Components.{Lent, Components}

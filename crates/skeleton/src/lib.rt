@@ -14,12 +14,12 @@ ghost use Rattle.skeleton.specs.Putting.{marked-arc, Markable, Roomy, Pu
 ghost use Rattle.skeleton.specs.Promises.{Sketchable, Sketched, Skeleton-promise};
 use components::name_all;
 use crossings::mark_crossings;
+use memory::clear;
 use network::asked_work;
 use network::ready;
 use network::room_trouble;
 use network::work_trouble;
 use ring::mark_ring;
-use rows::clear;
 use rules::SkeletonAnswer;
 use tests::Tested;
 

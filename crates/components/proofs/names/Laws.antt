@@ -10,8 +10,8 @@ use Prim.Native.Nat.{ℕ, _+_, _-_, _≤_, _<_}
 use native.Mathlib.Omega.{arith}
 use lib.ListN.{length, getD, set, take, drop, length-set}
 use lib.Seq.{getD-set-same, getD-set-other, drop-set-lt, take-set-le}
-use Rattle.order.specs.Memory.{cell}
-use Rattle.rows.proofs.Regions.{at-kept}
+use Rattle.memory.specs.Regions.{cell}
+use Rattle.memory.proofs.Regions.{at-kept}
 use Rattle.components.specs.Names.{Noted, Nameable, Named}
 use Rattle.components.proofs.Plain.Naming.{naming-none, naming-more}
 

@@ -11,9 +11,9 @@ use lib.ListN.{drop}
 use Rattle.rows.specs.Rows.{rows-of}
 use Rattle.rows.specs.Marks.{Marked}
 use Rattle.rows.proofs.Zeros.{zeros-none, zeros-clear}
-use Rattle.order.specs.Memory.{cell}
-use Rattle.rows.proofs.Regions.{at-kept}
-use Rattle.rows.proofs.Places.{drop-deeper}
+use Rattle.memory.specs.Regions.{cell}
+use Rattle.memory.proofs.Regions.{at-kept}
+use Rattle.memory.proofs.Places.{drop-deeper}
 use Rattle.order.proofs.Plain.Entries.{entry-head}
 use Rattle.components.specs.Gather.{Gather}
 use Rattle.components.specs.Roots.{Laid, Held, Sweep, Gathered, Given, Rest, Collecting, Collected}

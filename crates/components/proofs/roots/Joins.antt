@@ -12,8 +12,8 @@ use lib.ListN.{length, getD, set, drop, length-set}
 use lib.Seq.{getD-set-same, getD-set-other, drop-set-lt, take-set-le}
 use Rattle.rows.specs.Marks.{zeros}
 use Rattle.rows.proofs.Zeros.{same?, zeros-other, zeros-mark}
-use Rattle.order.specs.Memory.{cell}
-use Rattle.rows.proofs.Places.{drop-deeper}
+use Rattle.memory.specs.Regions.{cell}
+use Rattle.memory.proofs.Places.{drop-deeper}
 use Rattle.components.specs.Roots.{Laid, Held}
 
 -- Where nothing changes, all is kept.

@@ -12,8 +12,8 @@ use lib.ListN.{length, getD, set, drop}
 use lib.Seq.{getD-drop}
 use Rattle.rows.specs.Marks.{Marked, First-in}
 use Rattle.rows.specs.declared.Found.the-variants.{At}
-use Rattle.order.specs.Memory.{cell}
-use Rattle.rows.proofs.Places.{behind}
+use Rattle.memory.specs.Regions.{cell}
+use Rattle.memory.proofs.Places.{behind}
 use Rattle.components.specs.Roots.{Laid, Held, Sweep, Row}
 use Rattle.components.proofs.Plain.Gathering.{spread, gather-next, gather-start, gather-begun, gather-rest}
 use Rattle.components.proofs.roots.Joins.{Join, joined-space, joined-fewer, joined-mark, joined-mark-other}

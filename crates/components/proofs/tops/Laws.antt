@@ -8,8 +8,8 @@ use native.Mathlib.Nat.{add-zero}
 use native.Mathlib.Omega.{arith}
 use lib.ListN.{set, length-set}
 use lib.Seq.{getD-set-same, getD-set-other, drop-set-lt, take-set-le}
-use Rattle.order.specs.Memory.{cell}
-use Rattle.rows.proofs.Regions.{at-kept}
+use Rattle.memory.specs.Regions.{cell}
+use Rattle.memory.proofs.Regions.{at-kept}
 use Rattle.components.specs.Tops.{Pickable, Picked, Listable, Listed}
 use Rattle.components.proofs.Plain.Picking.{picks-none, picks-skip, picks-more}
 

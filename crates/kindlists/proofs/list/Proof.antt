@@ -5,7 +5,7 @@ use mathlib.Core.Path.{_≡_, ap, _∙_}
 use lib.ListN.{length}
 use lib.Seq.{length-sets}
 use Rattle.rules.specs.Lists.{run, keep}
-use Rattle.rows.specs.Storing.{Stored}
+use Rattle.memory.specs.Storing.{Stored}
 use Rattle.kinds.specs.Kinds.{own-kind}
 use Rattle.kindlists.proofs.Turns.{list-none, list-room, list-fits, list-more}
 use borrow.Author.Needs.{needs}

@@ -5,7 +5,7 @@ use native.Mathlib.Omega.{arith}
 use mathlib.Core.Path.{_≡_, refl, sym, _∙_}
 use Prim.Native.Nat.{_*_, _<_}
 use lib.ListN.{length-set}
-use Rattle.order.specs.Memory.{cell}
+use Rattle.memory.specs.Regions.{cell}
 use Rattle.kinds.specs.Kinds.{Room}
 use Rattle.kinds.proofs.Marks.{noted-same, noted-read}
 use Rattle.kinds.proofs.note.Statement.{statement}

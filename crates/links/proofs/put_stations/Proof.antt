@@ -4,7 +4,7 @@ use Prim.Native.Nat.{_+_, _*_, _≤_, min}
 use mathlib.Core.Path.{_≡_}
 use lib.ListN.{length}
 use Rattle.links.specs.Linking.{first-at}
-use Rattle.links.proofs.Runs.{copied-long}
+use Rattle.memory.proofs.Copies.{copied-long}
 use Rattle.links.proofs.Pieces.{first-inside, stationed}
 use borrow.Author.Needs.{needs}
 use native.Mathlib.Omega.{arith}

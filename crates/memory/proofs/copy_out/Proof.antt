@@ -1,16 +1,16 @@
--- `links::copy_out` meets its contract: the first i elements are copied, and a turn copies one more. The measure is
+-- `memory::copy_out` meets its contract: the first i elements are copied, and a turn copies one more. The measure is
 -- what is left to copy. Assumes nothing.
 use Prim.Native.Nat.{_≤_, _-_}
 use mathlib.Core.Path.{_≡_, ap, _∙_}
 use lib.ListN.{length}
 use lib.Seq.{sets, length-sets}
-use Rattle.rows.specs.Regions.{part}
-use Rattle.rows.proofs.Regions.{part-long}
-use Rattle.links.proofs.Runs.{copy-front, sets-over}
+use Rattle.memory.specs.Regions.{part}
+use Rattle.memory.proofs.Regions.{part-long}
+use Rattle.memory.proofs.Copies.{copy-front, sets-over}
 use borrow.Author.Needs.{needs}
 use native.Mathlib.Omega.{arith}
-use Rattle.links.proofs.copy_out.Statement.{statement}
-use Rattle.links.proofs.copy_out.Tie as tie
+use Rattle.memory.proofs.copy_out.Statement.{statement}
+use Rattle.memory.proofs.copy_out.Tie as tie
 
 abbrev Inv-loop : tie.InvT-loop
 Inv-loop work at n out₀ i₀ out i = (i ≤ n) × (out ≡ sets out₀ 0 (part work at i))

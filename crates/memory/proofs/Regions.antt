@@ -1,5 +1,6 @@
 -- Laws of lists that stand in lent work memory: read, made longer, cut, put together, and kept by changes elsewhere.
---   part-long, part-more, part-take, part-drop   a part's length, one element more, its front and its rest
+--   part-at, part-long, part-more, part-take, part-drop   a part's elements and length, one element more, its front
+--                            and its rest
 --   holds-at, holds-of       element by element, from the list to the memory and back
 --   holds-part               what stands there is held
 --   holds-same               two lists as long that stand in one place are equal
@@ -21,8 +22,11 @@ use lib.ListN.{length, getD, set, take, drop, length-take, length-drop, length-a
 use lib.Seq.{length-take-le, take-suc, take-nil, take-append-seam, drop-append-seam, drop-at, ext-getD, slice}
 use lib.Seq.{getD-take, getD-drop, drop-set-lt, drop-set-add, take-set-le, take-suc-set, take-take, take-add}
 use lib.Seq.{drop-drop}
-use Rattle.rows.specs.Regions.{part, Holds}
-use Rattle.rows.proofs.Parts.{part-at}
+use Rattle.memory.specs.Regions.{part, Holds}
+
+-- an element of a part is an element of the slice
+pub part-at : (w : List ℕ) (a n k : ℕ) → k < n → getD (take n (drop a w)) k 0 ≡ getD w (a + k) 0
+part-at w a n k h = rw (getD-take, getD-drop)
 
 -- a rest of a front is a front of the rest
 drop-take : (k n : ℕ) (l : List ℕ) → drop k (take (k + n) l) ≡ take n (drop k l)

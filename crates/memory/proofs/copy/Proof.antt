@@ -1,13 +1,13 @@
--- `links::copy` meets its contract: the first i elements are copied, and a turn copies one more. The measure is what
+-- `memory::copy` meets its contract: the first i elements are copied, and a turn copies one more. The measure is what
 -- is left to copy. Assumes nothing.
 use Prim.Native.Nat.{_≤_, _-_}
 use mathlib.Core.Path.{_≡_}
-use Rattle.links.specs.Stores.{Copied}
-use Rattle.links.proofs.Runs.{copy-down, copied-long}
+use Rattle.memory.specs.Storing.{Copied}
+use Rattle.memory.proofs.Copies.{copy-down, copied-long}
 use borrow.Author.Needs.{needs}
 use native.Mathlib.Omega.{arith}
-use Rattle.links.proofs.copy.Statement.{statement}
-use Rattle.links.proofs.copy.Tie as tie
+use Rattle.memory.proofs.copy.Statement.{statement}
+use Rattle.memory.proofs.copy.Tie as tie
 
 abbrev Inv-loop : tie.InvT-loop
 Inv-loop work₀ from n to i₀ work i = (i ≤ n) × Copied work₀ work from i to

@@ -14,10 +14,10 @@ use lib.ListN.{length, getD, set, drop, replicate, length-replicate, replicate-a
 use lib.Seq.{sets, sets-eq, length-sets}
 use Rattle.rules.specs.Lists.{over}
 use Rattle.theory.proofs.Ground.Storing.{sets-append}
-use Rattle.rows.specs.Regions.{part}
-use Rattle.rows.proofs.Regions.{part-long, part-more}
-use Rattle.rows.proofs.Stores.{getD-sets-high}
-use Rattle.links.specs.Stores.{Copied}
+use Rattle.memory.specs.Regions.{part}
+use Rattle.memory.proofs.Regions.{part-long, part-more}
+use Rattle.memory.proofs.Stores.{getD-sets-high}
+use Rattle.memory.specs.Storing.{Copied}
 
 -- stores from index 0 on leave the result, and past it what was there
 pub sets-over : (xs l : List ℕ) → length xs ≤ length l → sets l 0 xs ≡ over xs l

@@ -14,8 +14,8 @@ use lib.ListN.{length, getD, take, drop, set, List·getD-append}
 use lib.Seq.{sets, sets-eq, set-comm, take-set-le, drop-set-lt, getD-set-other, length-take-le, drop-at, getD-drop}
 use lib.Seq.{take-append-seam}
 use Rattle.theory.proofs.Ground.Storing.{sets-append}
-use Rattle.rows.specs.Regions.{part, Holds}
-use Rattle.rows.proofs.Regions.{part-below, part-kept, holds-append}
+use Rattle.memory.specs.Regions.{part, Holds}
+use Rattle.memory.proofs.Regions.{part-below, part-kept, holds-append}
 
 -- storing a list and then one element behind it
 pub sets-more : (w : List ℕ) (at : ℕ) (vs : List ℕ) (x n : ℕ) → n ≡ at + length vs

@@ -1,14 +1,14 @@
--- `links::fill` meets its contract: the number is stored i times, and a turn stores it once more. The measure is what
+-- `memory::fill` meets its contract: the number is stored i times, and a turn stores it once more. The measure is what
 -- is left to store. Assumes nothing.
 use Prim.Native.Nat.{_≤_, _-_}
 use mathlib.Core.Path.{_≡_, ap, _∙_}
 use lib.ListN.{length, replicate}
 use lib.Seq.{sets, length-sets}
-use Rattle.links.proofs.Runs.{fill-more}
+use Rattle.memory.proofs.Copies.{fill-more}
 use borrow.Author.Needs.{needs}
 use native.Mathlib.Omega.{arith}
-use Rattle.links.proofs.fill.Statement.{statement}
-use Rattle.links.proofs.fill.Tie as tie
+use Rattle.memory.proofs.fill.Statement.{statement}
+use Rattle.memory.proofs.fill.Tie as tie
 
 abbrev Inv-loop : tie.InvT-loop
 Inv-loop work₀ at n x i₀ work i = (i ≤ n) × (work ≡ sets work₀ at (replicate i x))

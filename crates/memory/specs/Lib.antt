@@ -1,0 +1,3 @@
+-- What is said of parts of lent work memory, and of what is stored there.
+pub mod Regions
+pub mod Storing
