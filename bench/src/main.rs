@@ -2,8 +2,6 @@
 //! networks at three sizes, all in one run. Prints Markdown tables to standard
 //! output and writes a plot of the ratios.
 
-#[path = "../../tests/src/calls.rs"]
-mod calls;
 #[path = "../../tests/src/chance.rs"]
 #[allow(dead_code)]
 mod chance;
@@ -15,6 +13,8 @@ mod model;
 #[path = "../../tests/src/net.rs"]
 #[allow(dead_code)]
 mod net;
+#[path = "../../include/linkplan.rs"]
+mod linkplan;
 mod measure;
 mod plot;
 mod table;

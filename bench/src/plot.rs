@@ -45,32 +45,33 @@ pub fn draw(figures: &[Figure], runs: usize) -> String {
     axes(&mut svg, low, high, &y, group);
     for (family, colour) in COLOURS.iter().enumerate() {
         for call in 0..CALLS.len() {
-            let column: Vec<&Figure> =
-                figures.iter().filter(|f| f.call == call && f.family == family).collect();
-            let points: Vec<String> =
-                column.iter().map(|f| format!("{:.1},{:.1}", x(call, family), y(f.ratio()))).collect();
-            writeln!(svg, "<polyline points=\"{}\" fill=\"none\" stroke=\"{colour}\"/>", points.join(" ")).unwrap();
-            for figure in column {
-                let size = SIZES.iter().position(|&zones| zones == figure.zones).unwrap();
-                writeln!(
-                    svg,
-                    "<circle cx=\"{:.1}\" cy=\"{:.1}\" r=\"{}\" fill=\"{colour}\">\
-                     <title>{}, {}, {} zones: {}</title></circle>",
-                    x(call, family),
-                    y(figure.ratio()),
-                    RADII[size],
-                    CALLS[call],
-                    FAMILIES[family],
-                    figure.zones,
-                    three(figure.ratio()),
-                )
-                .unwrap();
-            }
+            let column = figures.iter().filter(|f| f.call == call && f.family == family);
+            dots(&mut svg, column.map(|f| (f, x(call, family), y(f.ratio()))).collect(), colour);
         }
     }
     legend(&mut svg);
     svg += "</svg>\n";
     svg
+}
+
+/// A column: a dot for each size where its figure is, and a line through them.
+fn dots(svg: &mut String, column: Vec<(&Figure, f64, f64)>, colour: &str) {
+    let points: Vec<String> = column.iter().map(|(_, x, y)| format!("{x:.1},{y:.1}")).collect();
+    writeln!(svg, "<polyline points=\"{}\" fill=\"none\" stroke=\"{colour}\"/>", points.join(" ")).unwrap();
+    for (figure, x, y) in column {
+        let size = SIZES.iter().position(|&zones| zones == figure.zones).unwrap();
+        writeln!(
+            svg,
+            "<circle cx=\"{x:.1}\" cy=\"{y:.1}\" r=\"{}\" fill=\"{colour}\">\
+             <title>{}, {}, {} zones: {}</title></circle>",
+            RADII[size],
+            CALLS[figure.call],
+            FAMILIES[figure.family],
+            figure.zones,
+            three(figure.ratio()),
+        )
+        .unwrap();
+    }
 }
 
 fn text(svg: &mut String, x: f64, y: f64, anchor: &str, size: usize, words: &str) {

@@ -22,30 +22,35 @@ pub fn print(figures: &[Figure], runs: usize) {
         println!("## {name}\n");
         println!("| family | zones | arcs | ours | model | ours/model | growth of ours | growth of model |");
         println!("|---|--:|--:|--:|--:|--:|--:|--:|");
-        for (family, family_name) in FAMILIES.iter().enumerate() {
-            let mut before: Option<&Figure> = None;
-            for zones in SIZES {
-                let figure =
-                    figures.iter().find(|f| (f.call, f.family, f.zones) == (call, family, zones)).unwrap();
-                let growth = |now: f64, then: fn(&Figure) -> f64| match before {
-                    Some(figure) => format!("{:.1}", now / then(figure)),
-                    None => String::new(),
-                };
-                println!(
-                    "| {family_name} | {zones} | {} | {} | {} | {} | {} | {} |",
-                    figure.arcs,
-                    three(figure.ours * 1e6),
-                    three(figure.model * 1e6),
-                    three(figure.ratio()),
-                    growth(figure.ours, |f| f.ours),
-                    growth(figure.model, |f| f.model),
-                );
-                before = Some(figure);
-            }
-        }
+        rows(figures, call);
         println!();
     }
     summary(figures);
+}
+
+/// The rows of one call.
+fn rows(figures: &[Figure], call: usize) {
+    for (family, family_name) in FAMILIES.iter().enumerate() {
+        let mut before: Option<&Figure> = None;
+        for zones in SIZES {
+            let figure =
+                figures.iter().find(|f| (f.call, f.family, f.zones) == (call, family, zones)).unwrap();
+            let growth = |now: f64, then: fn(&Figure) -> f64| match before {
+                Some(figure) => format!("{:.1}", now / then(figure)),
+                None => String::new(),
+            };
+            println!(
+                "| {family_name} | {zones} | {} | {} | {} | {} | {} | {} |",
+                figure.arcs,
+                three(figure.ours * 1e6),
+                three(figure.model * 1e6),
+                three(figure.ratio()),
+                growth(figure.ours, |f| f.ours),
+                growth(figure.model, |f| f.model),
+            );
+            before = Some(figure);
+        }
+    }
 }
 
 /// The range and the middle of the ratios of each call at the largest size.

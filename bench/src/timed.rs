@@ -1,8 +1,8 @@
 //! One network with all the lists that its calls are lent, and the six calls on
 //! it by the archive and by the model.
 
-use crate::calls::ARCHIVE;
 use crate::chance::Chance;
+use crate::linkplan::*;
 use crate::model::{self, work_asked, Answer};
 use crate::net::Net;
 
@@ -68,19 +68,19 @@ impl Timed {
         // Every list is as long as it is said to be, and no two overlap.
         unsafe {
             match CALLS[call] {
-                "read" => (ARCHIVE.read)(file, self.file.len(), tails, arcs, heads, arcs, a),
-                "write" => (ARCHIVE.write)(zones, t, arcs, h, arcs, out_file, self.out_file.len(), a),
-                "strong" => (ARCHIVE.strong)(zones, t, arcs, h, arcs, work, work_len, a),
+                "read" => linkplan_read(file, self.file.len(), tails, arcs, heads, arcs, a),
+                "write" => linkplan_write(zones, t, arcs, h, arcs, out_file, self.out_file.len(), a),
+                "strong" => linkplan_strong(zones, t, arcs, h, arcs, work, work_len, a),
                 "reach" => {
                     let mut all = 0;
                     for &(first, second) in &self.questions {
-                        (ARCHIVE.reach)(zones, t, arcs, h, arcs, first, second, work, work_len, a);
+                        linkplan_reach(zones, t, arcs, h, arcs, first, second, work, work_len, a);
                         all = all * 2 + *a.add(2);
                     }
                     *a.add(7) = all;
                 }
-                "skeleton" => (ARCHIVE.skeleton)(zones, t, arcs, h, arcs, tails, arcs, heads, arcs, work, work_len, a),
-                _ => (ARCHIVE.plan)(zones, t, arcs, h, arcs, from, zones, to, zones, why, zones, work, work_len, a),
+                "skeleton" => linkplan_skeleton(zones, t, arcs, h, arcs, tails, arcs, heads, arcs, work, work_len, a),
+                _ => linkplan_plan(zones, t, arcs, h, arcs, from, zones, to, zones, why, zones, work, work_len, a),
             }
         }
         answer

@@ -33,21 +33,14 @@ static int refused(void)
     return 1;
 }
 
-int main(void)
+/* Says on standard error what the calls other than read and plan answer. A
+ * network that was read is a good one, and the lists are as long as any call can
+ * ask for, so none of these is refused; a caller with lists of other lengths
+ * looks at answer[0] each time, as main does. */
+static void others(size_t length, size_t zones, size_t arcs)
 {
-    static const char *const words[] = { "ring", "chain", "back" };
-    size_t length, zones, arcs, need, i;
+    size_t i;
 
-    length = fread(file, 1, sizeof file, stdin);
-    linkplan_read(file, length, tails, LINKPLAN_ARCS_MAX, heads, LINKPLAN_ARCS_MAX, answer);
-    if (refused())
-        return 0;
-    zones = (size_t)answer[2];
-    arcs = (size_t)answer[3];
-
-    /* A network that was read is a good one, and the lists are as long as any
-     * call can ask for, so none of these is refused; a caller with lists of
-     * other lengths looks at answer[0] each time, as above. */
     linkplan_write(zones, tails, arcs, heads, arcs, copy, sizeof copy, answer);
     fprintf(stderr, "written again: %s\n",
             answer[2] == length && memcmp(file, copy, length) == 0 ? "the same" : "not the same");
@@ -64,6 +57,20 @@ int main(void)
     for (i = 0; i < answer[2]; i++)
         fprintf(stderr, " %u-%u", (unsigned)out_tails[i], (unsigned)out_heads[i]);
     fprintf(stderr, "\n");
+}
+
+int main(void)
+{
+    static const char *const words[] = { "ring", "chain", "back" };
+    size_t length, zones, arcs, need, i;
+
+    length = fread(file, 1, sizeof file, stdin);
+    linkplan_read(file, length, tails, LINKPLAN_ARCS_MAX, heads, LINKPLAN_ARCS_MAX, answer);
+    if (refused())
+        return 0;
+    zones = (size_t)answer[2];
+    arcs = (size_t)answer[3];
+    others(length, zones, arcs);
 
     linkplan_plan(zones, tails, arcs, heads, arcs, from, LINKPLAN_ZONES_MAX, to, LINKPLAN_ZONES_MAX,
                   why, LINKPLAN_ZONES_MAX, work, LINKPLAN_WORK_MAX, answer);

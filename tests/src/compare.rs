@@ -1,7 +1,7 @@
 //! Makes one call to the archive and to the model and compares all there is:
 //! the eight numbers of the answer and every lent element, inputs too.
 
-use crate::calls::Calls;
+use crate::calls::{call, Calls};
 use crate::chance::Chance;
 use crate::lent::{Held, Lent};
 use crate::model::{self, Answer};
@@ -104,11 +104,11 @@ impl Comparer {
         let text = || format!("read: file {bytes:02x?} tails_len {tails_len} heads_len {heads_len}");
         self.before(&text);
         unsafe {
-            (self.calls.read)(
+            call!(self.calls, linkplan_read(
                 file.pointer(), file.length(),
                 tails.pointer(), tails.length(), heads.pointer(), heads.length(),
                 answer.pointer(),
-            );
+            ));
         }
         self.after(READ, &right, &text, &[&answer, &tails, &heads, &file]);
         right
@@ -122,11 +122,11 @@ impl Comparer {
         let text = || format!("write: {net} file_len {file_len}");
         self.before(&text);
         unsafe {
-            (self.calls.write)(
+            call!(self.calls, linkplan_write(
                 net.zones, tails.pointer(), tails.length(), heads.pointer(), heads.length(),
                 file.pointer(), file.length(),
                 answer.pointer(),
-            );
+            ));
         }
         self.after(WRITE, &right, &text, &[&answer, &file, &tails, &heads]);
         right
@@ -140,11 +140,11 @@ impl Comparer {
         let text = || format!("strong: {net} work_len {work_len}");
         self.before(&text);
         unsafe {
-            (self.calls.strong)(
+            call!(self.calls, linkplan_strong(
                 net.zones, tails.pointer(), tails.length(), heads.pointer(), heads.length(),
                 work.pointer(), work.length(),
                 answer.pointer(),
-            );
+            ));
         }
         self.after(STRONG, &right, &text, &[&answer, &work, &tails, &heads]);
         right
@@ -158,11 +158,11 @@ impl Comparer {
         let text = || format!("reach: {net} from {from} to {to} work_len {work_len}");
         self.before(&text);
         unsafe {
-            (self.calls.reach)(
+            call!(self.calls, linkplan_reach(
                 net.zones, tails.pointer(), tails.length(), heads.pointer(), heads.length(),
                 from, to, work.pointer(), work.length(),
                 answer.pointer(),
-            );
+            ));
         }
         self.after(REACH, &right, &text, &[&answer, &work, &tails, &heads]);
         right
@@ -182,12 +182,12 @@ impl Comparer {
         let text = || format!("skeleton: {net} out_tails_len {} out_heads_len {} work_len {work_len}", out[0], out[1]);
         self.before(&text);
         unsafe {
-            (self.calls.skeleton)(
+            call!(self.calls, linkplan_skeleton(
                 net.zones, tails.pointer(), tails.length(), heads.pointer(), heads.length(),
                 out_tails.pointer(), out_tails.length(), out_heads.pointer(), out_heads.length(),
                 work.pointer(), work.length(),
                 answer.pointer(),
-            );
+            ));
         }
         self.after(SKELETON, &right, &text, &[&answer, &out_tails, &out_heads, &work, &tails, &heads]);
         right
@@ -210,12 +210,12 @@ impl Comparer {
         };
         self.before(&text);
         unsafe {
-            (self.calls.plan)(
+            call!(self.calls, linkplan_plan(
                 net.zones, tails.pointer(), tails.length(), heads.pointer(), heads.length(),
                 from.pointer(), from.length(), to.pointer(), to.length(), why.pointer(), why.length(),
                 work.pointer(), work.length(),
                 answer.pointer(),
-            );
+            ));
         }
         self.after(PLAN, &right, &text, &[&answer, &from, &to, &why, &work, &tails, &heads]);
         right

@@ -94,7 +94,7 @@ fn main() {
     }
 
     println!("archive {}, seed {}", env!("LINKPLAN_ARCHIVE"), options.seed);
-    let mut to = Comparer::new(calls::ARCHIVE, options.seed, 1000, options.loud);
+    let mut to = Comparer::new(calls::Calls::Archive, options.seed, 1000, options.loud);
     for name in SECTIONS {
         if to.full() || options.only.as_deref().is_some_and(|only| only != name) {
             continue;

@@ -101,33 +101,42 @@ pub fn network(chance: &mut Chance) -> Net {
         (tail, (tail + 1 + chance.below(zones - 1)) % zones)
     };
     let mut arcs: Vec<(usize, usize)> = (0..many).map(|_| pair(chance)).collect();
+    shape(zones, &mut arcs, chance);
+    if !arcs.is_empty() {
+        for _ in 0..chance.pick(&[0, 0, 1, 3]) {
+            let again = chance.pick(&arcs);
+            arcs.push(again);
+        }
+    }
+    arcs.truncate(model::MOST_ARCS);
+    families::mixed(zones, arcs, chance)
+}
+
+/// Puts arcs by chance into one of seven shapes.
+fn shape(zones: usize, arcs: &mut Vec<(usize, usize)>, chance: &mut Chance) {
     match chance.below(7) {
         // As they are, many or few.
         0 => {}
-        1 => arcs.truncate(many / 3),
+        1 => arcs.truncate(arcs.len() / 3),
         // Without rings.
         2 => arcs.iter_mut().for_each(|arc| *arc = (arc.0.min(arc.1), arc.0.max(arc.1))),
-        // From the first zones to the last only: sources and sinks that are
-        // hard to pair. The split is anywhere.
+        // From the first zones to the last only, with the split anywhere.
         3 => {
             let split = 1 + chance.below(zones - 1);
             arcs.truncate(1 + zones);
-            for arc in &mut arcs {
-                *arc = (arc.0 % split, split + arc.1 % (zones - split));
-            }
+            across(zones, split, arcs);
         }
         // In groups of zones that have nothing to do with each other.
         4 => {
             let group = 1 + chance.below(4);
             arcs.retain(|arc| arc.0 / group == arc.1 / group);
         }
-        // Many sources to few sinks and few sources to many sinks, so that
-        // several stay unpaired on both sides.
+        // Many sources to few sinks and few to many: some unpaired on each side.
         5 if zones > 3 => {
             let few = 1 + chance.below(2);
             let split = zones / 2;
-            for arc in &mut arcs {
-                *arc = (arc.0 % split, split + arc.1 % (zones - split));
+            across(zones, split, arcs);
+            for arc in arcs {
                 if chance.one_in(2) {
                     arc.0 %= few;
                 } else {
@@ -138,21 +147,18 @@ pub fn network(chance: &mut Chance) -> Net {
         // Small rings with arcs upward between them.
         _ => {
             let group = 2 + chance.below(3);
-            for arc in &mut arcs {
-                if arc.0 / group > arc.1 / group {
-                    *arc = (arc.1, arc.0);
-                }
+            for arc in arcs.iter_mut().filter(|arc| arc.0 / group > arc.1 / group) {
+                *arc = (arc.1, arc.0);
             }
         }
     }
-    if !arcs.is_empty() {
-        for _ in 0..chance.pick(&[0, 0, 1, 3]) {
-            let again = chance.pick(&arcs);
-            arcs.push(again);
-        }
+}
+
+/// Turns every arc into one from the zones before the split to those behind it.
+fn across(zones: usize, split: usize, arcs: &mut [(usize, usize)]) {
+    for arc in arcs {
+        *arc = (arc.0 % split, split + arc.1 % (zones - split));
     }
-    arcs.truncate(model::MOST_ARCS);
-    families::mixed(zones, arcs, chance)
 }
 
 /// One to three damages, so that the order of the tests is seen.
@@ -165,21 +171,7 @@ fn damage(net: &mut Net, chance: &mut Chance) {
         // Very long lists take time and come seldom.
         let kinds = if chance.one_in(200) { 9 } else { 7 };
         match chance.below(kinds) {
-            0 | 1 => {
-                net.zones = match chance.below(11) {
-                    0 => 0,
-                    1 => 1025,
-                    2 => 65_536 + zones,
-                    3 => (1 << 32) + zones,
-                    4 => usize::MAX,
-                    5 => usize::MAX / 2 + 1 + zones,
-                    6 => 1026 + chance.below(70_000),
-                    7 => 65_536,
-                    8 => 1 << (11 + chance.below(53)),
-                    9 => zones - 1,
-                    _ => 1 + chance.below(zones),
-                }
-            }
+            0 | 1 => net.zones = other_zones(zones, chance),
             // Lists of different length.
             2 => {
                 let (short, long) = (chance.below(arcs + 1), arcs + 1 + chance.below(3));
@@ -197,22 +189,39 @@ fn damage(net: &mut Net, chance: &mut Chance) {
                 }
             }
             // An arc from a zone to itself, perhaps from one that there is not.
-            5 | 6 => {
-                if at < net.tails.len().min(net.heads.len()) {
-                    net.heads[at] = net.tails[at];
-                }
-            }
-            // More arcs than there may be; one list or both. A count cut down
-            // to 16 bits would be a small one.
-            many => {
-                let length = chance.pick(&[4096, 4097, 4097, 5000, 65_536, 65_536 + arcs, 65_537 + arcs]);
-                if many == 7 || chance.one_in(2) {
-                    net.tails.resize(length, 0);
-                }
-                if many == 7 || chance.one_in(2) {
-                    net.heads.resize(length, (zones > 1) as u16);
-                }
-            }
+            5 | 6 if at < net.tails.len().min(net.heads.len()) => net.heads[at] = net.tails[at],
+            5 | 6 => {}
+            both => too_many(net, zones, both == 7, chance),
         }
+    }
+}
+
+/// A zone count that is not this one: mostly one that there may not be.
+fn other_zones(zones: usize, chance: &mut Chance) -> usize {
+    match chance.below(11) {
+        0 => 0,
+        1 => 1025,
+        2 => 65_536 + zones,
+        3 => (1 << 32) + zones,
+        4 => usize::MAX,
+        5 => usize::MAX / 2 + 1 + zones,
+        6 => 1026 + chance.below(70_000),
+        7 => 65_536,
+        8 => 1 << (11 + chance.below(53)),
+        9 => zones - 1,
+        _ => 1 + chance.below(zones),
+    }
+}
+
+/// More arcs than there may be; both lists or perhaps one. A count cut down to
+/// 16 bits would be a small one.
+fn too_many(net: &mut Net, zones: usize, both: bool, chance: &mut Chance) {
+    let arcs = net.tails.len();
+    let length = chance.pick(&[4096, 4097, 4097, 5000, 65_536, 65_536 + arcs, 65_537 + arcs]);
+    if both || chance.one_in(2) {
+        net.tails.resize(length, 0);
+    }
+    if both || chance.one_in(2) {
+        net.heads.resize(length, (zones > 1) as u16);
     }
 }

@@ -1,8 +1,9 @@
 //! Runs the comparing against wrong calls: each fault must be seen, and none
 //! where there is none.
 
+use crate::calls::Calls;
 use crate::compare::Comparer;
-use crate::wrong::{FAULT, FAULTS, WRONG};
+use crate::wrong::{FAULT, FAULTS};
 use crate::{examples, files, random, small};
 use std::sync::atomic::Ordering;
 
@@ -11,7 +12,7 @@ pub fn run(seed: u64) -> bool {
     let mut missed = 0;
     for (number, name) in FAULTS.iter().enumerate() {
         FAULT.store(number, Ordering::Relaxed);
-        let mut to = Comparer::new(WRONG, seed, 1, false);
+        let mut to = Comparer::new(Calls::Wrong, seed, 1, false);
         examples::run(&mut to);
         for section in 0..3 {
             if !to.full() {

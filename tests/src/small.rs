@@ -16,31 +16,35 @@ pub fn run(to: &mut Comparer, most_zones: usize) {
     }
 }
 
-fn of_size(to: &mut Comparer, zones: usize) {
-    let pairs: Vec<(usize, usize)> =
-        (0..zones * zones).map(|i| (i / zones, i % zones)).filter(|(a, b)| a != b).collect();
-    let subset = |chosen: usize| -> Vec<(usize, usize)> {
-        (0..pairs.len()).filter(|bit| chosen >> bit & 1 == 1).map(|bit| pairs[bit]).collect()
-    };
-    let subsets = 1 << pairs.len();
+/// The arcs that the bits of a number choose out of all pairs of zones.
+fn subset(pairs: &[(usize, usize)], chosen: usize) -> Vec<(usize, usize)> {
+    (0..pairs.len()).filter(|bit| chosen >> bit & 1 == 1).map(|bit| pairs[bit]).collect()
+}
 
-    // The fewest arcs that make each subset strong: none if it is, else one
-    // more than the best of those with one arc more.
-    let mut fewest = vec![0; subsets];
-    for chosen in (0..subsets).rev() {
-        if !Table::new(&Net::new(zones, &subset(chosen))).strong() {
+/// The fewest arcs that make each subset strong: none if it is, else one more
+/// than the best of those with one arc more.
+fn fewest_arcs(zones: usize, pairs: &[(usize, usize)]) -> Vec<usize> {
+    let mut fewest = vec![0; 1 << pairs.len()];
+    for chosen in (0..fewest.len()).rev() {
+        if !Table::new(&Net::new(zones, &subset(pairs, chosen))).strong() {
             let more = (0..pairs.len()).filter(|bit| chosen >> bit & 1 == 0).map(|bit| fewest[chosen | 1 << bit]);
             fewest[chosen] = 1 + more.min().unwrap();
         }
     }
+    fewest
+}
 
+fn of_size(to: &mut Comparer, zones: usize) {
+    let pairs: Vec<(usize, usize)> =
+        (0..zones * zones).map(|i| (i / zones, i % zones)).filter(|(a, b)| a != b).collect();
+    let fewest = fewest_arcs(zones, &pairs);
     let mut by_reach: HashMap<Table, Vec<(u16, u16)>> = HashMap::new();
     let mut by_skeleton: HashMap<Vec<(u16, u16)>, (Table, links::Plan)> = HashMap::new();
-    for chosen in 0..subsets {
+    for chosen in 0..fewest.len() {
         if to.full() {
             return;
         }
-        let net = Net::new(zones, &subset(chosen));
+        let net = Net::new(zones, &subset(&pairs, chosen));
         to.all(&net, None);
         let table = properties::hold(to, &net);
         let plan = links::plan(zones, &net.tails, &net.heads);
@@ -55,7 +59,7 @@ fn of_size(to: &mut Comparer, zones: usize) {
         to.hold(same.1 == plan, || format!("model: equal skeleton, other plan: {net}"));
 
         // The same network with its arcs in another order.
-        let mut arcs = subset(chosen);
+        let mut arcs = subset(&pairs, chosen);
         to.chance.shuffle(&mut arcs);
         to.all(&Net::new(zones, &arcs), Some(2));
     }

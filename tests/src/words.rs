@@ -111,7 +111,17 @@ pub fn plan(net: &Net, table: &Table) -> Plan {
     let reaches = |a: usize, b: usize| if turned { table.reaches(b, a) } else { table.reaches(a, b) };
     let (from, to) = if turned { (&sinks, &sources) } else { (&sources, &sinks) };
 
-    // Lists from 1, as in the rule; element 0 is not used.
+    let (p, v, w) = paired(from, to, reaches);
+    let link = |(a, b, why): (usize, usize, u16)| {
+        let (from, to) = if turned { (b, a) } else { (a, b) };
+        Link { from: from as u16, to: to as u16, why }
+    };
+    counts(p, linked(p, &v, &w, &x).into_iter().map(link).collect())
+}
+
+/// The number of pairs, and the sources and the sinks with those of the pairs
+/// first. Lists from 1, as in the rule; element 0 is not used.
+fn paired(from: &[usize], to: &[usize], reaches: impl Fn(usize, usize) -> bool) -> (usize, Vec<usize>, Vec<usize>) {
     let (mut v, mut w) = (vec![usize::MAX], vec![usize::MAX]);
     for &source in from {
         if let Some(&sink) = to.iter().find(|&&sink| reaches(source, sink) && !w.contains(&sink)) {
@@ -119,38 +129,29 @@ pub fn plan(net: &Net, table: &Table) -> Plan {
             w.push(sink);
         }
     }
-    let (p, s, t) = (v.len() - 1, from.len(), to.len());
-    for &source in from {
-        if !v.contains(&source) {
-            v.push(source);
+    let p = v.len() - 1;
+    for (all, list) in [(from, &mut v), (to, &mut w)] {
+        for zone in all {
+            if !list.contains(zone) {
+                list.push(*zone);
+            }
         }
     }
-    for &sink in to {
-        if !w.contains(&sink) {
-            w.push(sink);
-        }
-    }
+    (p, v, w)
+}
 
-    let mut links = Vec::new();
-    let mut link = |a: usize, b: usize, why: u16| {
-        let (a, b) = if turned { (b, a) } else { (a, b) };
-        links.push(Link { from: a as u16, to: b as u16, why });
-    };
-    for i in 1..p {
-        link(w[i], v[i + 1], RING);
-    }
+/// The links over those lists and the components alone.
+fn linked(p: usize, v: &[usize], w: &[usize], x: &[usize]) -> Vec<(usize, usize, u16)> {
+    let (s, t) = (v.len() - 1, w.len() - 1);
+    let mut links: Vec<(usize, usize, u16)> = (1..p).map(|i| (w[i], v[i + 1], RING)).collect();
     let mut steps = Vec::new();
     if s > 0 {
         steps.push(w[p]);
         steps.extend((s + 1..=t).map(|i| w[i]));
     }
-    steps.extend(&x);
+    steps.extend(x);
     steps.push(if s > 0 { v[1] } else { x[0] });
-    for i in 1..steps.len() {
-        link(steps[i - 1], steps[i], CHAIN);
-    }
-    for i in p + 1..=s {
-        link(w[i], v[i], BACK);
-    }
-    counts(p, links)
+    links.extend((1..steps.len()).map(|i| (steps[i - 1], steps[i], CHAIN)));
+    links.extend((p + 1..=s).map(|i| (w[i], v[i], BACK)));
+    links
 }

@@ -1,9 +1,10 @@
-//! The six calls, each made by the model and then spoilt in one of many ways.
+//! The six functions of the C interface, each made by the model and then spoilt
+//! in one of many ways.
 //!
-//! Only the self-test uses them: it puts them in place of the archive's calls
-//! to see that the comparing finds every fault out.
+//! The self-test puts them in place of the archive's to see that the comparing
+//! finds every fault out. With no fault put in they are the model behind the C
+//! interface: the stand-in exports them under their names.
 
-use crate::calls::Calls;
 use crate::model::{self, graph, Answer};
 use std::slice::{from_raw_parts, from_raw_parts_mut};
 use std::sync::atomic::{AtomicUsize, Ordering};
@@ -53,8 +54,6 @@ pub static FAULT: AtomicUsize = AtomicUsize::new(0);
 fn fault(name: &str) -> bool {
     FAULTS[FAULT.load(Ordering::Relaxed)] == name
 }
-
-pub const WRONG: Calls = Calls { read, write, strong, reach, skeleton, plan };
 
 fn cut(zones: usize) -> usize {
     if fault("a zone count is cut to 16 bits") {
@@ -153,7 +152,8 @@ unsafe fn spoil_work(answer: &Answer, zones: usize, arcs: usize, work: *mut u16,
     }
 }
 
-unsafe extern "C" fn read(
+#[cfg_attr(feature = "exported", no_mangle)]
+pub unsafe extern "C" fn linkplan_read(
     file: *const u8, file_len: usize,
     tails: *mut u16, tails_len: usize, heads: *mut u16, heads_len: usize, out: *mut u64,
 ) {
@@ -178,7 +178,8 @@ unsafe extern "C" fn read(
     give(answer, out);
 }
 
-unsafe extern "C" fn write(
+#[cfg_attr(feature = "exported", no_mangle)]
+pub unsafe extern "C" fn linkplan_write(
     zones: usize, tails: *const u16, tails_len: usize, heads: *const u16, heads_len: usize,
     file: *mut u8, file_len: usize, out: *mut u64,
 ) {
@@ -189,7 +190,8 @@ unsafe extern "C" fn write(
     give(answer, out);
 }
 
-unsafe extern "C" fn strong(
+#[cfg_attr(feature = "exported", no_mangle)]
+pub unsafe extern "C" fn linkplan_strong(
     zones: usize, tails: *const u16, tails_len: usize, heads: *const u16, heads_len: usize,
     work: *mut u16, work_len: usize, out: *mut u64,
 ) {
@@ -203,7 +205,8 @@ unsafe extern "C" fn strong(
     give(answer, out);
 }
 
-unsafe extern "C" fn reach(
+#[cfg_attr(feature = "exported", no_mangle)]
+pub unsafe extern "C" fn linkplan_reach(
     zones: usize, tails: *const u16, tails_len: usize, heads: *const u16, heads_len: usize,
     mut from: usize, mut to: usize, work: *mut u16, work_len: usize, out: *mut u64,
 ) {
@@ -223,7 +226,8 @@ unsafe extern "C" fn reach(
     give(answer, out);
 }
 
-unsafe extern "C" fn skeleton(
+#[cfg_attr(feature = "exported", no_mangle)]
+pub unsafe extern "C" fn linkplan_skeleton(
     zones: usize, tails: *const u16, tails_len: usize, heads: *const u16, heads_len: usize,
     out_tails: *mut u16, out_tails_len: usize, out_heads: *mut u16, out_heads_len: usize,
     work: *mut u16, work_len: usize, out: *mut u64,
@@ -268,7 +272,8 @@ fn drop_beside(zones: usize, tails: &[u16], heads: &[u16], one: &mut [u16], two:
     kept
 }
 
-unsafe extern "C" fn plan(
+#[cfg_attr(feature = "exported", no_mangle)]
+pub unsafe extern "C" fn linkplan_plan(
     zones: usize, tails: *const u16, tails_len: usize, heads: *const u16, heads_len: usize,
     from: *mut u16, from_len: usize, to: *mut u16, to_len: usize, why: *mut u16, why_len: usize,
     work: *mut u16, work_len: usize, out: *mut u64,

@@ -1,3 +1,2 @@
 -- A local array that is lent for a call, and the calls of the walk by hand.
-pub mod LocalArray
 pub mod AskSteps

@@ -2,8 +2,8 @@
 --   unset-links     ten records that no plan has
 use mathlib.Core.List.{List}
 use lib.ListN.{replicate}
-use Rattle.records.specs.declared.Why.the-variants.{Back}
-use Rattle.records.specs.declared.Link.{Link}
+use Rattle.rules.specs.declared.Why.the-variants.{Back}
+use Rattle.rules.specs.declared.Link.{Link}
 
 -- ten records that no plan has
 abbrev pub unset-links : List Link

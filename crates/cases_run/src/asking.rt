@@ -1,8 +1,9 @@
 // What a row gives, brought to the calls.
-use super::lent;
-use super::outcome;
-use super::outcome::Outcome;
 use super::planning;
+use outcomes::lent;
+use outcomes::outcome;
+use outcomes::outcome::Outcome;
+use printing::least;
 use rules::ReadAnswer;
 use rules::SkeletonAnswer;
 use rules::WriteAnswer;
@@ -74,7 +75,7 @@ fn skeleton_of(zones: usize, tails: &[u16], heads: &[u16]) -> Outcome {
             let kept = lent::cleared(&work, zones, tails.len());
             let rest = lent::holds(&from, arcs, 10, lent::UNSET)
                 && lent::holds(&to, arcs, 10, lent::UNSET);
-            let n = lent::least(arcs, 10);
+            let n = least(arcs, 10);
             written(zones, &from[0..n], &to[0..n], kept && rest)
         }
         SkeletonAnswer::Refused(t) => outcome::refused(t, false),
@@ -92,7 +93,7 @@ fn brought(call: Call, zones: usize, tails: &[u16], heads: &[u16]) -> Outcome {
 
 // Brings a network of n arcs to a call.
 fn cut(call: Call, zones: usize, tails: [u16; 10], heads: [u16; 10], n: usize) -> Outcome {
-    let k = lent::least(n, 10);
+    let k = least(n, 10);
     brought(call, zones, &tails[0..k], &heads[0..k])
 }
 
@@ -118,7 +119,7 @@ fn bytes(given: [u16; 10]) -> [u8; 10] {
 // Reads a row's file.
 pub fn read_file(head: [u16; 10], given: [u16; 10]) -> Outcome {
     let file = bytes(given);
-    let n = lent::least(head[3] as usize, 10);
+    let n = least(head[3] as usize, 10);
     let mut tails = [lent::UNSET; 10];
     let mut heads = [lent::UNSET; 10];
     match netfile::read(&file[0..n], &mut tails, &mut heads) {

@@ -5,12 +5,10 @@
 ghost use Prim.Native.Nat.{_≤_, _<_};
 
 mod asking;
-mod lent;
-mod lines;
-mod outcome;
 mod planning;
 
 use asking::Call;
+use outcomes::lines;
 
 // How many answers there were, and how many of them differ from the table.
 struct Tally {

@@ -1,15 +1,16 @@
 // PLAN by lists and by records, each brought to the same outcome.
 ghost use mathlib.Core.Path.{_≡_};
-ghost use Rattle.records.specs.Promise.{Records-promise};
+ghost use Rattle.rules.specs.Answers.{plan-told};
+ghost use Rattle.rules.specs.Promises.{Records-promise};
 ghost use Rattle.cases_run.specs.Unset.{unset-links};
-use super::lent;
-use super::outcome;
-use super::outcome::Columns;
-use super::outcome::Outcome;
-use records::Link;
-use records::Why;
+use outcomes::lent;
+use outcomes::outcome;
+use outcomes::outcome::Columns;
+use outcomes::outcome::Outcome;
 use records::plan_records;
+use rules::Link;
 use rules::PlanAnswer;
+use rules::Why;
 
 // What PLAN over records answers, and the records that were lent to it.
 pub struct Asked {
@@ -46,8 +47,8 @@ pub fn unset() -> [Link; 10]
 
 // Asks PLAN over ten records, at least two more than there are zones.
 fn ask_records(zones: usize, tails: &[u16], heads: &[u16], work: &mut [u16]) -> Asked
-    ensures { λ r. ⌜ Records-promise zones (now (tails .entry)) (now (heads .entry)) (now (work .entry))
-        unset-links (r .answer) (now (work .exit)) (r .links) ⌝ }
+    ensures { λ r. ⌜ Records-promise zones (now (tails .entry)) (now (heads .entry)) unset-links
+        (now (work .entry)) (r .links) (now (work .exit)) (plan-told (r .answer)) ⌝ }
 {
     let mut links = unset();
     let answer = plan_records(zones, tails, heads, &mut links, work);

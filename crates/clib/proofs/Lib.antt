@@ -1,2 +1,2 @@
--- What the proofs of several functions use.
-pub mod Handing
+-- What the promises of the C functions settle: everything.
+pub mod Outcomes

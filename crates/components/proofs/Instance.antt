@@ -7,13 +7,15 @@ use native.Mathlib.Omega.{arith}
 use lib.ListN.{length, getD, take, drop, replicate, getD-replicate, List·getD-append}
 use Rattle.rules.specs.Network.{Arc}
 use Rattle.rules.specs.Calls.{arcs-of}
-use Rattle.rows.specs.Arranged.{heads-of, tails-below, Between, Arranged-at}
-use Rattle.rows.proofs.Zeros.{same?}
+use Rattle.intake.specs.Tested.{Fine}
+use Rattle.workmap.specs.Map.{row-places, map-of}
+use Rattle.arranged.specs.Arranged.{heads-of, tails-below, Arranged-at}
+use Rattle.arranged.proofs.Zeros.{same?}
 use Rattle.components.specs.Components.{Lent}
 
--- 24 clear elements, the starts and the row of the arc, and the starts and the row of the arc turned round
+-- 24 clear elements, the starts and the row of the arc, the starts and the row of the arc turned round, and 3 more
 abbrev memory : List ℕ
-memory = replicate 24 0 ++ (0 ∷ 1 ∷ 1 ∷ 1 ∷ 0 ∷ 0 ∷ 1 ∷ 0 ∷ [])
+memory = replicate 24 0 ++ (0 ∷ 1 ∷ 1 ∷ 1 ∷ 0 ∷ 0 ∷ 1 ∷ 0 ∷ 0 ∷ 0 ∷ 0 ∷ [])
 
 -- A number below 2 is 0 or 1.
 two : (P : ℕ → Type 0) (z : ℕ) → z < 2 → P 0 → P 1 → P z
@@ -23,22 +25,8 @@ two P z l p q = elim (same? z 0) [ inl e ↦ rw e p | inr e ↦ let y : z ≡ 1 
 three : (P : ℕ → Type 0) (z : ℕ) → z ≤ 2 → P 0 → P 1 → P 2 → P z
 three P z l p q r = elim (same? z 2) [ inl e ↦ rw e r | inr e ↦ two P z (omega arith) p q ]
 
--- The arc is between zones.
-between : Between 2 (arcs-of (0 ∷ []) (1 ∷ []))
-unfolding arcs-of zipWith
-between = record {
-  tails = λ m. elim (List·Memᴰ·cases-cons m) [
-    | inl e ↦ omega (arith, ap (λ (f : Arc). f .tail) e)
-    | inr k ↦ elim k [ ]
-  ];
-  heads = λ m. elim (List·Memᴰ·cases-cons m) [
-    | inl e ↦ omega (arith, ap (λ (f : Arc). f .head) e)
-    | inr k ↦ elim k [ ]
-  ];
-}
-
 -- The arc is arranged.
-rows : Arranged-at memory 2 24 27 (arcs-of (0 ∷ []) (1 ∷ []))
+rows : Arranged-at memory (row-places 2 24 27) (arcs-of (0 ∷ []) (1 ∷ []))
 unfolding arcs-of zipWith heads-of tails-below
 rows = record {
   order = omega arith;
@@ -49,7 +37,7 @@ rows = record {
 }
 
 -- The arc turned round is arranged.
-turned : Arranged-at memory 2 28 31 (arcs-of (1 ∷ []) (0 ∷ []))
+turned : Arranged-at memory (row-places 2 28 31) (arcs-of (1 ∷ []) (0 ∷ []))
 unfolding arcs-of zipWith heads-of tails-below
 turned = record {
   order = omega arith;
@@ -62,17 +50,37 @@ turned = record {
 -- The first 24 elements are clear.
 clear : (i : ℕ) → i < 24 → getD memory i 0 ≡ 0
 clear i l =
-    List·getD-append (replicate 24 0) (0 ∷ 1 ∷ 1 ∷ 1 ∷ 0 ∷ 0 ∷ 1 ∷ 0 ∷ []) 0 i l ∙ getD-replicate 24 i 0 0 l
+    List·getD-append (replicate 24 0) (0 ∷ 1 ∷ 1 ∷ 1 ∷ 0 ∷ 0 ∷ 1 ∷ 0 ∷ 0 ∷ 0 ∷ 0 ∷ []) 0 i l
+    ∙ getD-replicate 24 i 0 0 l
+
+-- The network passes its tests.
+fine : Fine 2 (0 ∷ []) (1 ∷ [])
+unfolding arcs-of zipWith
+fine = record {
+  paired = refl;
+  accepted = record {
+    zones-least = omega arith;
+    zones-most = omega arith;
+    arcs-most = omega arith;
+    tails = λ m. elim (List·Memᴰ·cases-cons m) [
+      | inl e ↦ omega (arith, ap (λ (f : Arc). f .tail) e)
+      | inr k ↦ elim k [ ]
+    ];
+    heads = λ m. elim (List·Memᴰ·cases-cons m) [
+      | inl e ↦ omega (arith, ap (λ (f : Arc). f .head) e)
+      | inr k ↦ elim k [ ]
+    ];
+    apart = λ m q. elim (List·Memᴰ·cases-cons m) [
+      | inl e ↦ omega (arith, ap (λ (f : Arc). f .tail) e, ap (λ (f : Arc). f .head) e)
+      | inr k ↦ elim k [ ]
+    ];
+  };
+}
 
 -- All that is asked for is so.
-pub lent : Lent memory 2 1 (0 ∷ []) (1 ∷ [])
+pub lent : Lent memory (map-of 2 1) (0 ∷ []) (1 ∷ [])
 lent = record {
-  small = omega arith;
-  few = omega arith;
-  tails = refl;
-  heads = refl;
-  between = between;
-  room = omega arith;
+  ready = record { fine = fine; map = refl; room = omega arith };
   rows = rows;
   turned = turned;
   clear = λ i a b. clear i b;

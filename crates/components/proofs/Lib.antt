@@ -2,4 +2,5 @@
 pub mod Plain
 pub mod Lowest
 pub mod Passes
+pub mod Lending
 mod Instance

@@ -1,4 +1,3 @@
 -- Laws of the second pass in the memory.
-pub mod Joins
-pub mod Sweeps
+pub mod Taking
 pub mod Collecting

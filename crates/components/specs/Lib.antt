@@ -1,6 +1,5 @@
 -- What the contracts of the second pass, the naming and the whole say.
 pub mod Pass
-pub mod Gather
 pub mod Naming
 pub mod Picks
 pub mod Roots

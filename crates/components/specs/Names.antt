@@ -9,12 +9,12 @@ use Rattle.memory.specs.Regions.{cell}
 use Rattle.components.specs.Naming.{Naming}
 
 -- x was noted at `at`; or nothing was, and now x, which is v, is
-abbrev pub Noted : List ℕ → List ℕ → ℕ → ℕ → ℕ → Type 0
-Noted w w' at v x =
+abbrev pub Root-noted : List ℕ → List ℕ → ℕ → ℕ → ℕ → Type 0
+Root-noted w w' at v x =
     ((getD w at 0 ≡ x + 1) × (w' ≡ w)) ⊎ ((getD w at 0 ≡ 0) × ((x ≡ v) × (w' ≡ set w at (v + 1))))
 
 -- the regions lie one behind the other, inside the memory; nothing is noted, and every zone has a root
-pub record Nameable (w : List ℕ) (zones names low roots : ℕ) : Type 0 where
+pub record Zones-nameable (w : List ℕ) (zones names low roots : ℕ) : Type 0 where
   pub small : zones ≤ 1024
   pub apart : names + zones ≤ low
   pub before : low + zones ≤ roots
@@ -23,7 +23,7 @@ pub record Nameable (w : List ℕ) (zones names low roots : ℕ) : Type 0 where
   pub root : (v : ℕ) → v < zones → (0 < cell w roots v) × (cell w roots v ≤ zones)
 
 -- the zones below v have their names
-pub record Named (w w' : List ℕ) (zones names low roots v : ℕ) : Type 0 where
+pub record Zones-named (w w' : List ℕ) (zones names low roots v : ℕ) : Type 0 where
   pub long : length w' ≡ length w
   pub front : take names w' ≡ take names w
   pub back : drop roots w' ≡ drop roots w

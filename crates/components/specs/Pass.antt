@@ -4,11 +4,13 @@
 --   Back E F z c     entries lead from c to z, and every zone on the way but z is free
 --   root v           0 where v has no root yet, else one more than the zone that is its root
 --   Pass ..          the pass when the places from k on of the order are done
+--   Topo ..          the queue q lists the zones that have roots, by component, in topological order
 -- Its heart is `closed`: a head of an unrooted zone is unrooted. So roots are given in topological order.
 use mathlib.Core.Path.{_≡_}
 use Prim.Native.Nat.{ℕ, _+_, _<_}
-use Rattle.rows.specs.Rows.{Run}
-use Rattle.order.specs.Order.{Stands}
+use Rattle.arranged.specs.Rows.{Run}
+use Rattle.search.specs.Marking.{Queued}
+use Rattle.finishing.specs.Order.{In-order}
 
 -- each leads to the other
 abbrev pub Mutual : (ℕ → ℕ → Type 0) → ℕ → ℕ → Type 0
@@ -21,7 +23,15 @@ pub data Back (E : ℕ → ℕ → Type 0) (Free : ℕ → Type 0) (z : ℕ) : �
 
 -- the second pass when the places from k on are done
 pub record Pass (E : ℕ → ℕ → Type 0) (order root : ℕ → ℕ) (zones k : ℕ) : Type 0 where
-  pub taken : (v : ℕ) → v < zones → root v ≡ 0 → Stands order k v
+  pub taken : (v : ℕ) → v < zones → root v ≡ 0 → In-order order k v
   pub closed : (u v : ℕ) → E u v → root u ≡ 0 → root v ≡ 0
   pub sound : (v r : ℕ) → v < zones → root v ≡ r + 1 → (r < zones) × ((root r ≡ r + 1) × Mutual E r v)
   pub complete : (u v : ℕ) → u < zones → v < zones → (root u ≡ 0 → ⊥) → Mutual E u v → root v ≡ root u
+
+-- the queue lists the zones that have roots, by component, in topological order
+pub record Topo (E : ℕ → ℕ → Type 0) (root q : ℕ → ℕ) (zones tail : ℕ) : Type 0 where
+  pub zone : (j : ℕ) → j < tail → q j < zones
+  pub named : (j : ℕ) → j < tail → root (q j) ≡ 0 → ⊥
+  pub distinct : (i j : ℕ) → i < j → j < tail → q i ≡ q j → ⊥
+  pub all : (v : ℕ) → v < zones → (root v ≡ 0 → ⊥) → Queued q 0 tail v
+  pub after : (i j : ℕ) → i < j → j < tail → Run E (q j) (q i) → root (q j) ≡ root (q i)

@@ -3,7 +3,7 @@
 --   t j       what was picked, so far m of the first n of q
 use mathlib.Core.Path.{_≡_}
 use Prim.Native.Nat.{ℕ, _≤_, _<_}
-use Rattle.components.specs.Gather.{Queued}
+use Rattle.search.specs.Marking.{Queued}
 
 -- x stands before y among the first n of q
 pub record Rise (q : ℕ → ℕ) (n x y : ℕ) : Type 0 where

@@ -4,12 +4,12 @@
 //     names, low, roots   where the names, the notes and the root numbers stand, of `zones` elements each
 ghost use Prim.Native.Nat.{_<_};
 ghost use lib.ListN.{length};
-ghost use Rattle.components.specs.Names.{Noted, Nameable, Named};
+ghost use Rattle.components.specs.Names.{Root-noted, Zones-nameable, Zones-named};
 
 // The zone that is noted at `at`; where none is, v, which is noted then.
 fn note(work: &mut [u16], at: usize, v: usize) -> u16
     requires { ⌜ (at < length (now work)) × (v < 1024) ⌝ }
-    ensures { λ x. ⌜ Noted (now (work .entry)) (now (work .exit)) at v x ⌝ }
+    ensures { λ x. ⌜ Root-noted (now (work .entry)) (now (work .exit)) at v x ⌝ }
 {
     let x = work[at];
     if x != 0 {
@@ -21,8 +21,8 @@ fn note(work: &mut [u16], at: usize, v: usize) -> u16
 
 // Every zone's name, from `names` on. Nothing is noted at the start.
 pub fn name_zones(work: &mut [u16], zones: usize, names: usize, low: usize, roots: usize)
-    requires { ⌜ Nameable (now work) zones names low roots ⌝ }
-    ensures { λ _. ⌜ Named (now (work .entry)) (now (work .exit)) zones names low roots zones ⌝ }
+    requires { ⌜ Zones-nameable (now work) zones names low roots ⌝ }
+    ensures { λ _. ⌜ Zones-named (now (work .entry)) (now (work .exit)) zones names low roots zones ⌝ }
 {
     let mut v = 0;
     while v < zones {

@@ -7,7 +7,7 @@
 use mathlib.Core.Path.{_≡_, refl, sym, ap, _∙_}
 use mathlib.Core.Logic.{⊎-elim}
 use mathlib.Core.List.{List}
-use Prim.Native.Nat.{ℕ, _+_, _*_, _<_}
+use Prim.Native.Nat.{ℕ, _+_, _<_}
 use native.Mathlib.Omega.{arith}
 use lib.ListN.{getD}
 use Rattle.rules.specs.Network.{Network, _⟶_, Proper}
@@ -16,13 +16,13 @@ use Rattle.rules.specs.Calls.{handed}
 use Rattle.theory.proofs.Reaching.Components.{Together, together-zone, name-together, name-name, name-agree}
 use Rattle.theory.proofs.Skeletons.SkeletonLaws.{Joined, crosses-true, true-crosses}
 use Rattle.theory.proofs.Skeletons.SkeletonOrder.{Direct, Chosen, direct-zone, chosen-crosses, crosses-chosen}
-use Rattle.rows.specs.Marks.{Marked}
+use Rattle.arranged.specs.Marks.{Marked}
 use Rattle.memory.proofs.Regions.{at-below, at-kept}
 use Rattle.search.specs.Marking.{Clear}
 use Rattle.memory.proofs.Places.{drop-deeper}
-use Rattle.crossings.specs.Named.{name-at, top-at, Named, Crossed}
+use Rattle.crossings.specs.Named.{name-at, top-at, Named, Crossed, chosen-at, direct-at, tops-at}
 use Rattle.crossings.specs.Direct.{Led, Directable, Added}
-use Rattle.crossings.specs.Choosing.{Picked, Choosable, Choosing}
+use Rattle.crossings.specs.Choosing.{Crossing-picked, Choosable, Choosing}
 use Rattle.crossings.proofs.NamedLaws.{
   zone-in,
   in-zone,
@@ -37,10 +37,10 @@ use Rattle.crossings.proofs.NamedLaws.{
   reach-way,
 }
 
-module _ (w : List ℕ) (n : ℕ) (ts hs : List ℕ) (m : ℕ) (N : Named w n ts hs m) (clear : Clear w 0 (4 * n)) (a : ℕ)
+module _ (w : List ℕ) (n : ℕ) (ts hs : List ℕ) (m : ℕ) (N : Named w n ts hs m) (clear : Clear w 0 (tops-at n)) (a : ℕ)
     (low : a < n) where
   -- an element of the free part is zero
-  free-zero : (i : ℕ) → i < 4 * n → getD w i 0 ≡ 0
+  free-zero : (i : ℕ) → i < tops-at n → getD w i 0 ≡ 0
   free-zero i h = ap (λ (k : ℕ). getD w k 0) (omega arith) ∙ clear i h
 
   -- a zone that is no name has no mark, and no arc crosses from it
@@ -49,7 +49,7 @@ module _ (w : List ℕ) (n : ℕ) (ts hs : List ℕ) (m : ℕ) (N : Named w n ts
       record {
         long = refl;
         high = refl;
-        sound = λ b h o. absurd (o (free-zero (3 * n + b) (omega arith)));
+        sound = λ b h o. absurd (o (free-zero (chosen-at n + b) (omega arith)));
         complete = λ b h e.
             absurd (other (N .named a low ∙ crosses-true (named-proper w n ts hs m N) a b e .tail-names));
       }
@@ -63,16 +63,17 @@ module _ (w : List ℕ) (n : ℕ) (ts hs : List ℕ) (m : ℕ) (N : Named w n ts
     -- rows and names stand still
     pub named-still : Named v n ts hs m
     named-still =
-        named-kept w v n ts hs m (D .long) (drop-deeper w v (3 * n) (4 * n) (omega arith) (D .high)) N
+        named-kept w v n ts hs m (D .long) (drop-deeper w v (chosen-at n) (tops-at n) (omega arith) (D .high)) N
 
     -- the names can be tried
     pub crossed-choose : Choosable v n m
     crossed-choose =
         record {
           laid = named-laid v n ts hs m named-still;
-          clear = λ z h. at-below w v (2 * n) (0 + z) (omega arith) (D .low) ∙ free-zero (0 + z) (omega arith);
+          clear = λ z h. at-below w v (direct-at n) (0 + z) (omega arith) (D .low) ∙ free-zero (0 + z) (omega arith);
           free = λ z h.
-              at-kept w v (3 * n) (3 * n + z) (omega arith) (D .high) ∙ free-zero (3 * n + z) (omega arith);
+              at-kept w v (chosen-at n) (chosen-at n + z) (omega arith) (D .high)
+              ∙ free-zero (chosen-at n + z) (omega arith);
           few = N .few;
           names = top-zone v n ts hs m named-still;
         }
@@ -142,19 +143,19 @@ module _ (w : List ℕ) (n : ℕ) (ts hs : List ℕ) (m : ℕ) (N : Named w n ts
       direct-low d X = in-zone n ts hs d (direct-zone proper X)
 
       -- a mark among the direct names stands for a direct one
-      marked-direct : (d : ℕ) → d < n → Marked v (2 * n) d → Direct net a d
+      marked-direct : (d : ℕ) → d < n → Marked v (direct-at n) d → Direct net a d
       marked-direct d h o =
           ⊎-elim
-          (λ (k : Marked w (2 * n) d). absurd (k (free-zero (2 * n + d) (omega arith))))
+          (λ (k : Marked w (direct-at n) d). absurd (k (free-zero (direct-at n + d) (omega arith))))
           (led-direct d)
           (D .new d h o)
 
       -- a direct name has its mark
-      direct-marked : (d : ℕ) → Direct net a d → Marked v (2 * n) d
+      direct-marked : (d : ℕ) → Direct net a d → Marked v (direct-at n) d
       direct-marked d X = D .own d (direct-low d X) (direct-led d X)
 
       -- what is picked is chosen
-      picked-chosen : (b : ℕ) → b < n → Picked v n m b → Chosen net (top-at v n) m a b
+      picked-chosen : (b : ℕ) → b < n → Crossing-picked v n m b → Chosen net (top-at v n) m a b
       picked-chosen b h p =
           record {
             at = p .at;
@@ -172,7 +173,7 @@ module _ (w : List ℕ) (n : ℕ) (ts hs : List ℕ) (m : ℕ) (N : Named w n ts
           }
 
       -- what is chosen is picked
-      chosen-picked : (b : ℕ) → Chosen net (top-at v n) m a b → Picked v n m b
+      chosen-picked : (b : ℕ) → Chosen net (top-at v n) m a b → Crossing-picked v n m b
       chosen-picked b X =
           record {
             at = X .at;
@@ -192,7 +193,7 @@ module _ (w : List ℕ) (n : ℕ) (ts hs : List ℕ) (m : ℕ) (N : Named w n ts
           let O = named-still .ordered in
           record {
             long = C .long ∙ D .long;
-            high = C .high ∙ drop-deeper w v (3 * n) (4 * n) (omega arith) (D .high);
+            high = C .high ∙ drop-deeper w v (chosen-at n) (tops-at n) (omega arith) (D .high);
             sound = λ b h o.
                 true-crosses proper a b (chosen-crosses proper O own (picked-chosen b h (C .chosen b h o)));
             complete = λ b h e.

@@ -10,8 +10,8 @@ use Prim.Native.Nat.{ℕ, _+_, _<_}
 use native.Mathlib.Omega.{arith}
 use lib.ListN.{length, getD, set}
 use lib.Seq.{getD-set-same, getD-set-other}
-use Rattle.rows.specs.Marks.{Marked}
-use Rattle.rows.proofs.Zeros.{same?}
+use Rattle.arranged.specs.Marks.{Marked}
+use Rattle.arranged.proofs.Zeros.{same?}
 
 module _ (w : List ℕ) (at d : ℕ) (inside : at + d < length w) where
   -- every other mark is as it was

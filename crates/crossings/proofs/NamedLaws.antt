@@ -1,60 +1,62 @@
 -- Lent work memory in which a network's zones have their names.
 --   zone-in, in-zone     a number below the zone count is a zone, and a zone is below it
---   named-kept           what keeps everything from 4 n on keeps rows and names
+--   named-kept           what keeps everything from the names of all components on keeps rows and names
 --   named-lowest         no name is above its zone
 --   top-zone             the names of all components are zones
---   named-laid           a search can go along the rows, with its marks and stack in the first 2 n places
+--   named-laid           a search can go along the rows, with its marks and queue at the front
 --   named-entry, entry-named     an entry of the rows is an arc, and back
 --   way-reach, reach-way a run along the rows is a reach, and back
 -- Assumes nothing.
 use mathlib.Core.Path.{_≡_, _∙_}
 use mathlib.Core.List.{List, List·Memᴰ as In}
-use Prim.Native.Nat.{ℕ, _+_, _*_, _≤_, _<_}
+use Prim.Native.Nat.{ℕ, _+_, _≤_, _<_}
 use native.Mathlib.Omega.{arith}
 use lib.ListN.{length, drop}
 use Rattle.rules.specs.Network.{_⟶_, Proper, Reach}
 use Rattle.rules.specs.Calls.{arcs-of, handed}
-use Rattle.tests.proofs.Fine.{fine-proper}
+use Rattle.intake.proofs.Fine.{fine-proper}
 use Rattle.theory.proofs.Ground.ArcLists.{arcs-length}
-use Rattle.theory.proofs.Ground.Ascending.{run-in, in-run}
+use Rattle.theory.proofs.Ground.Ascending.{span-in, in-span}
 use Rattle.theory.proofs.Reaching.Components.{together-refl, name-lowest}
-use Rattle.rows.specs.Rows.{Entry}
-use Rattle.rows.specs.Work.{starts-at, rows-at}
-use Rattle.rows.proofs.ArrangedLaws.{arranged-kept, arranged-entry, entry-arranged, run-reach, reach-run}
+use Rattle.arranged.specs.Rows.{Entry}
+use Rattle.arranged.proofs.ArrangedLaws.{arranged-kept, arranged-entry, entry-arranged, run-reach, reach-run}
 use Rattle.memory.proofs.Regions.{at-kept}
+use Rattle.workmap.specs.Map.{search-at, rows-at}
 use Rattle.search.specs.Marking.{Laid}
 use Rattle.memory.proofs.Places.{drop-deeper}
 use Rattle.search.proofs.Laying.{arranged-laid}
-use Rattle.network.proofs.Memory.{arcs-within}
-use Rattle.crossings.specs.Named.{name-at, top-at, rows-in, Named}
+use Rattle.arranged.proofs.ReadyLaws.{arcs-within}
+use Rattle.crossings.specs.Named.{name-at, top-at, named-rows, Named, named-at, tops-at}
 use Rattle.crossings.specs.Choosing.{Way}
 
 module _ (n : ℕ) (ts hs : List ℕ) where
   -- a number below the zone count is a zone
   pub zone-in : (v : ℕ) → v < n → In v (handed n ts hs .zones)
   unfolding handed
-  zone-in v h = in-run 0 n (omega arith) (omega arith)
+  zone-in v h = in-span 0 n (omega arith) (omega arith)
 
   -- a zone is a number below the zone count
   pub in-zone : (v : ℕ) → In v (handed n ts hs .zones) → v < n
   unfolding handed
-  in-zone v i = omega (arith, run-in 0 n i .1)
+  in-zone v i = omega (arith, span-in 0 n i .1)
 
--- what keeps everything from 4 n on keeps rows and names
+-- what keeps everything from the names of all components on keeps rows and names
 pub named-kept : (w w' : List ℕ) (n : ℕ) (ts hs : List ℕ) (m : ℕ) → length w' ≡ length w →
-    drop (4 * n) w' ≡ drop (4 * n) w → Named w n ts hs m → Named w' n ts hs m
+    drop (tops-at n) w' ≡ drop (tops-at n) w → Named w n ts hs m → Named w' n ts hs m
 named-kept w w' n ts hs m long same N =
-    let top : (j : ℕ) → top-at w' n j ≡ top-at w n j = λ j. at-kept w w' (4 * n) (4 * n + j) (omega arith) same in
+    let top : (j : ℕ) → top-at w' n j ≡ top-at w n j =
+    λ j. at-kept w w' (tops-at n) (tops-at n + j) (omega arith) same
+    in
     let O = N .ordered in
     record {
       fine = N .fine;
       room = omega (arith, N .room);
       rows =
-          arranged-kept w w' n (starts-at n) (rows-at n) (arcs-of ts hs)
-          (drop-deeper w w' (4 * n) (starts-at n) (omega arith) same)
+          arranged-kept w w' (rows-at n) (arcs-of ts hs)
+          (drop-deeper w w' (tops-at n) (rows-at n .starts) (omega arith) same)
           (N .rows);
       few = N .few;
-      named = λ v h. at-kept w w' (4 * n) (5 * n + v) (omega arith) same ∙ N .named v h;
+      named = λ v h. at-kept w w' (tops-at n) (named-at n + v) (omega arith) same ∙ N .named v h;
       ordered =
           record {
             own = λ j h. rw (top j) (O .own j h);
@@ -79,29 +81,30 @@ module _ (w : List ℕ) (n : ℕ) (ts hs : List ℕ) (m : ℕ) (N : Named w n ts
   top-zone j h = in-zone n ts hs (top-at w n j) (N .ordered .own j h .0)
 
   -- a search can go along the rows
-  pub named-laid : Laid w n (starts-at n) (rows-at n) 0 n
+  pub named-laid : Laid w (rows-at n) (search-at n)
   named-laid =
-      arranged-laid w n (starts-at n) (rows-at n) 0 n (arcs-of ts hs) (N .rows) (arcs-within n ts hs (N .fine))
-      (N .fine .high) (omega arith) (omega arith)
-      (omega (arith, arcs-length ts hs (N .fine .paired), N .room, N .fine .low))
+      arranged-laid w n (rows-at n .starts) (rows-at n .rows) 0 n (arcs-of ts hs) (N .rows)
+      (arcs-within n ts hs (N .fine))
+      (N .fine .accepted .zones-most) (omega arith) (omega arith)
+      (omega (arith, arcs-length ts hs (N .fine .paired), N .room, N .fine .accepted .zones-least))
 
   -- an entry of the rows is an arc
-  pub named-entry : {a b : ℕ} → Entry (rows-in w n) a b → In (a ⟶ b) (handed n ts hs .arcs)
+  pub named-entry : {a b : ℕ} → Entry (named-rows w n) a b → In (a ⟶ b) (handed n ts hs .arcs)
   unfolding handed
-  named-entry e = arranged-entry w n (starts-at n) (rows-at n) (arcs-of ts hs) (N .rows) e
+  named-entry e = arranged-entry w (rows-at n) (arcs-of ts hs) (N .rows) e
 
   -- an arc is an entry of the rows
-  pub entry-named : {a b : ℕ} → In (a ⟶ b) (handed n ts hs .arcs) → Entry (rows-in w n) a b
+  pub entry-named : {a b : ℕ} → In (a ⟶ b) (handed n ts hs .arcs) → Entry (named-rows w n) a b
   unfolding handed
   entry-named i =
-      entry-arranged w n (starts-at n) (rows-at n) (arcs-of ts hs) (N .rows) (arcs-within n ts hs (N .fine)) i
+      entry-arranged w (rows-at n) (arcs-of ts hs) (N .rows) (arcs-within n ts hs (N .fine)) i
 
   -- a run along the rows is a reach
   pub way-reach : {a b : ℕ} → Way w n a b → Reach (handed n ts hs) a b
   unfolding handed
-  way-reach r = run-reach w n (starts-at n) (rows-at n) (arcs-of ts hs) (N .rows) r
+  way-reach r = run-reach w (rows-at n) (arcs-of ts hs) (N .rows) r
 
   -- a reach is a run along the rows
   pub reach-way : {a b : ℕ} → Reach (handed n ts hs) a b → Way w n a b
   unfolding handed
-  reach-way r = reach-run w n (starts-at n) (rows-at n) (arcs-of ts hs) (N .rows) (arcs-within n ts hs (N .fine)) r
+  reach-way r = reach-run w (rows-at n) (arcs-of ts hs) (N .rows) (arcs-within n ts hs (N .fine)) r

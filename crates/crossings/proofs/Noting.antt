@@ -9,18 +9,18 @@
 use mathlib.Core.Path.{_≡_, refl, sym, _∙_}
 use mathlib.Core.Logic.{_⊎_, inl, inr, ⊎-elim}
 use mathlib.Core.List.{List}
-use Prim.Native.Nat.{ℕ, _+_, _*_, _≤_, _<_}
+use Prim.Native.Nat.{ℕ, _+_, _≤_, _<_}
 use native.Mathlib.Omega.{arith}
 use lib.ListN.{length, getD, drop, set, length-set}
 use lib.Seq.{take-set-le, drop-set-lt}
-use Rattle.rows.specs.Work.{starts-at, rows-at}
-use Rattle.rows.proofs.Zeros.{below?}
+use Rattle.workmap.specs.Map.{rows-at}
+use Rattle.arranged.proofs.Zeros.{below?}
 use Rattle.memory.proofs.Regions.{at-kept}
 use Rattle.memory.proofs.Places.{drop-deeper}
 use Rattle.search.proofs.Course.{laid-same}
 use Rattle.search.proofs.Keeping.{head-at, start-at, stop-at}
-use Rattle.crossings.specs.Named.{name-at, rows-in}
-use Rattle.crossings.specs.Direct.{Out, Past, Leads, Led, Directable, Added}
+use Rattle.crossings.specs.Named.{name-at, named-rows, chosen-at, direct-at, named-at}
+use Rattle.crossings.specs.Direct.{Leads-out, Past, Leads, Led, Directable, Added}
 use Rattle.crossings.proofs.MarkSet.{set-marked, set-kept, set-was}
 
 -- there is nothing to mark, and nothing changes
@@ -36,17 +36,17 @@ added-none w n none =
     }
 
 -- there is d alone to mark, and its mark is set
-pub added-set : (w : List ℕ) (n d : ℕ) {P : ℕ → Type 0} → 3 * n ≤ length w → d < n → P d → ((v : ℕ) → P v → v ≡ d) →
-    Added w (set w (2 * n + d) 1) n P
+pub added-set : (w : List ℕ) (n d : ℕ) {P : ℕ → Type 0} → chosen-at n ≤ length w → d < n → P d →
+    ((v : ℕ) → P v → v ≡ d) → Added w (set w (direct-at n + d) 1) n P
 added-set w n d {P} fits low here only =
-    let inside : 2 * n + d < length w = omega arith in
+    let inside : direct-at n + d < length w = omega arith in
     record {
-      long = length-set w (2 * n + d) 1;
-      low = take-set-le (2 * n) w (2 * n + d) 1 (omega arith);
-      high = drop-set-lt (3 * n) w (2 * n + d) 1 (omega arith);
-      old = λ v h m. set-kept w (2 * n) d inside v m;
-      new = λ v h m. ⊎-elim (λ o. inl o) (λ (q : v ≡ d). inr (rw q here)) (set-was w (2 * n) d inside v m);
-      own = λ v h p. set-marked w (2 * n) d inside v (only v p);
+      long = length-set w (direct-at n + d) 1;
+      low = take-set-le (direct-at n) w (direct-at n + d) 1 (omega arith);
+      high = drop-set-lt (chosen-at n) w (direct-at n + d) 1 (omega arith);
+      old = λ v h m. set-kept w (direct-at n) d inside v m;
+      new = λ v h m. ⊎-elim (λ o. inl o) (λ (q : v ≡ d). inr (rw q here)) (set-was w (direct-at n) d inside v m);
+      own = λ v h p. set-marked w (direct-at n) d inside v (only v p);
     }
 
 -- one marking after another
@@ -79,17 +79,17 @@ added-same A there back =
       own = λ d h q. A .own d h (back d q);
     }
 
-module _ (w v : List ℕ) (n : ℕ) (same : drop (3 * n) v ≡ drop (3 * n) w) where
+module _ (w v : List ℕ) (n : ℕ) (same : drop (chosen-at n) v ≡ drop (chosen-at n) w) where
   -- the names are as they were
   name-same : (z : ℕ) → name-at v n z ≡ name-at w n z
-  name-same z = at-kept w v (3 * n) (5 * n + z) (omega arith) same
+  name-same z = at-kept w v (chosen-at n) (named-at n + z) (omega arith) same
 
   -- the rows are as they were
-  rows-same : drop (starts-at n) v ≡ drop (starts-at n) w
-  rows-same = drop-deeper w v (3 * n) (starts-at n) (omega arith) same
+  rows-same : drop (rows-at n .starts) v ≡ drop (rows-at n .starts) w
+  rows-same = drop-deeper w v (chosen-at n) (rows-at n .starts) (omega arith) same
 
   -- a zone is out of a component as it was
-  out-kept : {a h d : ℕ} → Out w n a h d → Out v n a h d
+  out-kept : {a h d : ℕ} → Leads-out w n a h d → Leads-out v n a h d
   out-kept {h = h} o = record { to = name-same h ∙ o .to; other = o .other }
 
   -- an arc leads where it led
@@ -106,7 +106,7 @@ module _ (w v : List ℕ) (n : ℕ) (same : drop (3 * n) v ≡ drop (3 * n) w) w
   pub directable-kept : length v ≡ length w → Directable w n → Directable v n
   directable-kept long R =
       record {
-        laid = laid-same w v n (starts-at n) (rows-at n) 0 n long rows-same (R .laid);
+        laid = laid-same w v n (rows-at n .starts) (rows-at n .rows) 0 n long rows-same (R .laid);
         lowest = λ z h. rw (name-same z) (R .lowest z h);
       }
 
@@ -116,10 +116,10 @@ module _ (w : List ℕ) (n a f : ℕ) where
   past-none = added-none w n (λ d h p. omega (arith, p .low, p .high))
 
   -- one head more
-  pub past-turn : 3 * n ≤ f → (v : List ℕ) (i : ℕ) → f ≤ i → Added w v n (Past w n a f i) → (v' : List ℕ) →
-      Added v v' n (Out v n a (getD v i 0)) → Added w v' n (Past w n a f (i + 1))
+  pub past-turn : chosen-at n ≤ f → (v : List ℕ) (i : ℕ) → f ≤ i → Added w v n (Past w n a f i) → (v' : List ℕ) →
+      Added v v' n (Leads-out v n a (getD v i 0)) → Added w v' n (Past w n a f (i + 1))
   past-turn far v i low A v' B =
-      let here : getD v i 0 ≡ getD w i 0 = at-kept w v (3 * n) i (omega arith) (A .high) in
+      let here : getD v i 0 ≡ getD w i 0 = at-kept w v (chosen-at n) i (omega arith) (A .high) in
       added-then A B
       (λ d p. record { at = p .at; low = p .low; high = omega (arith, p .high); out = p .out })
       (λ d o.
@@ -134,15 +134,15 @@ module _ (w : List ℕ) (n a f : ℕ) where
 
 -- the row of z stands from place f up to place e
 module _ (w : List ℕ) (n z f e : ℕ) (R : Directable w n) (zone : z < n)
-    (starts-here : f ≡ rows-at n + getD w (starts-at n + z) 0)
-    (stops-here : e ≡ rows-at n + getD w (starts-at n + z + 1) 0) where
+    (starts-here : f ≡ rows-at n .rows + getD w (rows-at n .starts + z) 0)
+    (stops-here : e ≡ rows-at n .rows + getD w (rows-at n .starts + z + 1) 0) where
   -- it starts at f
-  start-is : rows-in w n .start z ≡ f
-  start-is = start-at w n (starts-at n) (rows-at n) z ∙ sym starts-here
+  start-is : named-rows w n .start z ≡ f
+  start-is = start-at w n (rows-at n .starts) (rows-at n .rows) z ∙ sym starts-here
 
   -- it stops at e
-  stop-is : rows-in w n .stop z ≡ e
-  stop-is = stop-at w n (starts-at n) (rows-at n) z ∙ sym stops-here
+  stop-is : named-rows w n .stop z ≡ e
+  stop-is = stop-at w n (rows-at n .starts) (rows-at n .rows) z ∙ sym stops-here
 
   -- it has an end
   pub row-order : f ≤ e
@@ -153,13 +153,13 @@ module _ (w : List ℕ) (n z f e : ℕ) (R : Directable w n) (zone : z < n)
   row-fits = omega (arith, stop-is, R .laid .ends z zone)
 
   -- the head at a place of it
-  head-is : (i : ℕ) → f ≤ i → rows-in w n .head i ≡ getD w i 0
-  head-is i low = head-at w n (starts-at n) (rows-at n) i (omega arith)
+  head-is : (i : ℕ) → f ≤ i → named-rows w n .head i ≡ getD w i 0
+  head-is i low = head-at w n (rows-at n .starts) (rows-at n .rows) i (omega arith)
 
   -- it is a zone, also when marks are set
-  pub row-head : (v : List ℕ) → drop (3 * n) v ≡ drop (3 * n) w → (i : ℕ) → f ≤ i → i < e → getD v i 0 < n
+  pub row-head : (v : List ℕ) → drop (chosen-at n) v ≡ drop (chosen-at n) w → (i : ℕ) → f ≤ i → i < e → getD v i 0 < n
   row-head v same i low high =
-      let kept = at-kept w v (3 * n) i (omega arith) same in
+      let kept = at-kept w v (chosen-at n) i (omega arith) same in
       let head = R .laid .sound .heads z i zone (omega (arith, start-is)) (omega (arith, stop-is)) in
       omega (arith, head-is i low)
 

@@ -6,27 +6,28 @@
 use mathlib.Core.Path.{_≡_, refl, sym, _∙_}
 use mathlib.Core.Logic.{inl, inr, ⊎-elim, _≢_}
 use mathlib.Core.List.{List}
-use Prim.Native.Nat.{ℕ, _+_, _*_, _≤_, _<_}
+use Prim.Native.Nat.{ℕ, _+_, _≤_, _<_}
 use native.Mathlib.Omega.{arith}
 use lib.ListN.{length, getD, drop, set, length-set}
 use lib.Seq.{getD-set-other, drop-set-lt}
-use Rattle.rows.specs.Rows.{Sound, rows-of}
-use Rattle.rows.specs.Marks.{Marked}
-use Rattle.rows.specs.Work.{starts-at, rows-at}
-use Rattle.rows.proofs.Zeros.{below?}
+use Rattle.arranged.specs.Rows.{Sound, rows-of}
+use Rattle.arranged.specs.Marks.{Marked}
+use Rattle.arranged.proofs.Zeros.{below?}
 use Rattle.memory.proofs.Regions.{at-kept}
+use Rattle.workmap.specs.Map.{row-places, search-at, rows-at}
 use Rattle.search.specs.Marking.{Closed, Searchable, Searched}
 use Rattle.memory.proofs.Places.{drop-deeper}
 use Rattle.search.proofs.Closed.{closed-run, clear-closed}
 use Rattle.search.proofs.Course.{laid-same}
-use Rattle.crossings.specs.Named.{top-at}
-use Rattle.crossings.specs.Choosing.{Came, Picked, Triable, Tried, Choosable, Choosing}
+use Rattle.crossings.specs.Named.{top-at, chosen-at, direct-at, tops-at}
+use Rattle.crossings.specs.Choosing.{Came, Crossing-picked, Triable, Tried, Choosable, Choosing}
 use Rattle.crossings.proofs.MarkSet.{set-marked, set-kept, set-was}
 
 -- equal marks over equal rows are closed alike
-closed-same : (w w' : List ℕ) (zones starts rows marks : ℕ) → Sound (rows-of w zones starts rows) →
+closed-same : (w w' : List ℕ) (zones starts rows marks : ℕ) → Sound (rows-of w (row-places zones starts rows)) →
     drop starts w' ≡ drop starts w → ((v : ℕ) → v < zones → getD w' (marks + v) 0 ≡ getD w (marks + v) 0) →
-    Closed (rows-of w zones starts rows) w marks → Closed (rows-of w' zones starts rows) w' marks
+    Closed (rows-of w (row-places zones starts rows)) w marks →
+    Closed (rows-of w' (row-places zones starts rows)) w' marks
 closed-same w w' zones starts rows marks S same marks-same C =
     rw same
     (λ v h m i l u e.
@@ -34,7 +35,7 @@ closed-same w w' zones starts rows marks S same marks-same C =
 
 module _ (w : List ℕ) (n c : ℕ) (T : Triable w n c) where
   -- nothing changes: where c is direct, the search has come to it
-  pub tried-same : (Marked w (2 * n) c → Marked w 0 c) → Tried w w n c
+  pub tried-same : (Marked w (direct-at n) c → Marked w 0 c) → Tried w w n c
   tried-same met =
       record {
         long = refl;
@@ -51,59 +52,62 @@ module _ (w : List ℕ) (n c : ℕ) (T : Triable w n c) where
 
   -- the memory with c chosen
   abbrev with-chosen : List ℕ
-  with-chosen = set w (3 * n + c) 1
+  with-chosen = set w (chosen-at n + c) 1
 
   -- the place of its mark lies in the memory
-  pub chosen-inside : 3 * n + c < length w
+  pub chosen-inside : chosen-at n + c < length w
   chosen-inside = omega (arith, T .laid .order, T .laid .fits, T .zone)
 
   -- every other element is as it was
-  chosen-other : (i : ℕ) → i ≢ 3 * n + c → getD with-chosen i 0 ≡ getD w i 0
-  chosen-other i ne = getD-set-other w (3 * n + c) i 1 0 ne
+  chosen-other : (i : ℕ) → i ≢ chosen-at n + c → getD with-chosen i 0 ≡ getD w i 0
+  chosen-other i ne = getD-set-other w (chosen-at n + c) i 1 0 ne
 
   -- the rows are as they were
-  chosen-rows : drop (starts-at n) with-chosen ≡ drop (starts-at n) w
-  chosen-rows = drop-set-lt (starts-at n) w (3 * n + c) 1 (omega (arith, T .zone))
+  chosen-rows : drop (rows-at n .starts) with-chosen ≡ drop (rows-at n .starts) w
+  chosen-rows = drop-set-lt (rows-at n .starts) w (chosen-at n + c) 1 (omega (arith, T .zone))
 
   -- the search's marks are as they were
   chosen-marks : (v : ℕ) → v < n → getD with-chosen (0 + v) 0 ≡ getD w (0 + v) 0
   chosen-marks v h = chosen-other (0 + v) (λ e. omega arith)
 
   -- a search can go on from c
-  pub tried-ready : Searchable with-chosen n (starts-at n) (rows-at n) c 0 n
+  pub tried-ready : Searchable with-chosen (rows-at n) (search-at n) c
   tried-ready =
       record {
         laid =
-            laid-same w with-chosen n (starts-at n) (rows-at n) 0 n (length-set w (3 * n + c) 1) chosen-rows (T .laid);
+            laid-same w with-chosen n (rows-at n .starts) (rows-at n .rows) 0 n (length-set w (chosen-at n + c) 1)
+            chosen-rows (T .laid);
         closed =
-            closed-same w with-chosen n (starts-at n) (rows-at n) 0 (T .laid .sound) chosen-rows chosen-marks
+            closed-same w with-chosen n (rows-at n .starts) (rows-at n .rows) 0 (T .laid .sound) chosen-rows
+            chosen-marks
             (T .closed);
         zone = T .zone;
       }
 
   -- w' is the memory after the search
-  module _ (w' : List ℕ) (S : Searched with-chosen w' n (starts-at n) (rows-at n) c 0 n) where
+  module _ (w' : List ℕ)
+      (S : Searched with-chosen w' (rows-at n) (search-at n) c) where
     -- an element behind the stack is as it was when c was chosen
     past : (i : ℕ) → n + n ≤ i → getD w' i 0 ≡ getD with-chosen i 0
     past i h = at-kept with-chosen w' (n + n) i h (S .kept .above)
 
     -- a mark among the chosen stands when c is chosen, and afterwards
-    past-mark : (v : ℕ) → Marked with-chosen (3 * n) v → Marked w' (3 * n) v
-    past-mark v m e = m (sym (past (3 * n + v) (omega arith)) ∙ e)
+    past-mark : (v : ℕ) → Marked with-chosen (chosen-at n) v → Marked w' (chosen-at n) v
+    past-mark v m e = m (sym (past (chosen-at n + v) (omega arith)) ∙ e)
 
     -- a mark among the chosen afterwards stands when c is chosen
-    mark-past : (v : ℕ) → Marked w' (3 * n) v → Marked with-chosen (3 * n) v
-    mark-past v m e = m (past (3 * n + v) (omega arith) ∙ e)
+    mark-past : (v : ℕ) → Marked w' (chosen-at n) v → Marked with-chosen (chosen-at n) v
+    mark-past v m e = m (past (chosen-at n + v) (omega arith) ∙ e)
 
     -- c is chosen, and the search has gone on from it
-    pub tried-search : Marked w (2 * n) c → (Marked w 0 c → ⊥) → Tried w w' n c
+    pub tried-search : Marked w (direct-at n) c → (Marked w 0 c → ⊥) → Tried w w' n c
     tried-search direct free =
         record {
-          long = S .kept .long ∙ length-set w (3 * n + c) 1;
+          long = S .kept .long ∙ length-set w (chosen-at n + c) 1;
           high =
-              drop-deeper with-chosen w' (n + n) (4 * n) (omega arith) (S .kept .above)
-              ∙ drop-set-lt (4 * n) w (3 * n + c) 1 (omega (arith, T .zone));
-          direct = λ v h. past (2 * n + v) (omega arith) ∙ chosen-other (2 * n + v) (λ e. omega arith);
+              drop-deeper with-chosen w' (n + n) (tops-at n) (omega arith) (S .kept .above)
+              ∙ drop-set-lt (tops-at n) w (chosen-at n + c) 1 (omega (arith, T .zone));
+          direct = λ v h. past (direct-at n + v) (omega arith) ∙ chosen-other (direct-at n + v) (λ e. omega arith);
           closed = rw chosen-rows at (S .closed);
           old = λ v h m. S .old v h (λ e. m (sym (chosen-marks v h) ∙ e));
           sound = λ v h m.
@@ -112,13 +116,13 @@ module _ (w : List ℕ) (n c : ℕ) (T : Triable w n c) where
               (λ p. inr (direct, rw chosen-rows at p))
               (S .sound v h m);
           complete = λ v d p. S .complete v (rw chosen-rows p) .1;
-          kept = λ v h m. past-mark v (set-kept w (3 * n) c chosen-inside v m);
+          kept = λ v h m. past-mark v (set-kept w (chosen-at n) c chosen-inside v m);
           new = λ v h m.
               ⊎-elim
               (λ o. inl o)
               (λ (q : v ≡ c). inr (q, (direct, free)))
-              (set-was w (3 * n) c chosen-inside v (mark-past v m));
-          own = λ d f. past-mark c (set-marked w (3 * n) c chosen-inside c refl);
+              (set-was w (chosen-at n) c chosen-inside v (mark-past v m));
+          own = λ d f. past-mark c (set-marked w (chosen-at n) c chosen-inside c refl);
         }
 
 module _ (w : List ℕ) (n m : ℕ) (R : Choosable w n m) where
@@ -129,7 +133,7 @@ module _ (w : List ℕ) (n m : ℕ) (R : Choosable w n m) where
         long = refl;
         high = refl;
         direct = λ v h. refl;
-        closed = clear-closed w n (starts-at n) (rows-at n) 0 (R .clear);
+        closed = clear-closed w n (rows-at n .starts) (rows-at n .rows) 0 (R .clear);
         sound = λ v h o. absurd (o (R .clear v h));
         complete = λ v h C. absurd (omega (arith, C .high));
         chosen = λ b h o. absurd (o (R .free b h));
@@ -139,21 +143,21 @@ module _ (w : List ℕ) (n m : ℕ) (R : Choosable w n m) where
   module _ (v : List ℕ) (k : ℕ) (D : Choosing w v n k) (low : k < m) where
     -- the names stand as they stood
     top-same : top-at v n k ≡ top-at w n k
-    top-same = at-kept w v (4 * n) (4 * n + k) (omega arith) (D .high)
+    top-same = at-kept w v (tops-at n) (tops-at n + k) (omega arith) (D .high)
 
     -- the next name is a zone
     top-zone : top-at w n k < n
     top-zone = R .names k low
 
     -- the rows are as they were
-    rows-same : drop (starts-at n) v ≡ drop (starts-at n) w
-    rows-same = drop-deeper w v (4 * n) (starts-at n) (omega arith) (D .high)
+    rows-same : drop (rows-at n .starts) v ≡ drop (rows-at n .starts) w
+    rows-same = drop-deeper w v (tops-at n) (rows-at n .starts) (omega arith) (D .high)
 
     -- the next name can be tried
     pub choosing-ready : Triable v n (top-at v n k)
     choosing-ready =
         record {
-          laid = laid-same w v n (starts-at n) (rows-at n) 0 n (D .long) rows-same (R .laid);
+          laid = laid-same w v n (rows-at n .starts) (rows-at n .rows) 0 n (D .long) rows-same (R .laid);
           closed = rw rows-same (D .closed);
           zone = rw top-same top-zone;
         }
@@ -163,16 +167,16 @@ module _ (w : List ℕ) (n m : ℕ) (R : Choosable w n m) where
     came-more x C = record { at = C .at; high = omega (arith, C .high); direct = C .direct; way = C .way }
 
     -- what is picked among the first k is so among one more
-    picked-more : (b : ℕ) → Picked w n k b → Picked w n (k + 1) b
+    picked-more : (b : ℕ) → Crossing-picked w n k b → Crossing-picked w n (k + 1) b
     picked-more b P =
         record { at = P .at; high = omega (arith, P .high); is = P .is; direct = P .direct; free = P .free }
 
     -- the next name is direct where it was
-    direct-was : Marked v (2 * n) (top-at w n k) → Marked w (2 * n) (top-at w n k)
+    direct-was : Marked v (direct-at n) (top-at w n k) → Marked w (direct-at n) (top-at w n k)
     direct-was d e = d (D .direct (top-at w n k) top-zone ∙ e)
 
     -- the next name was direct where it is
-    direct-is : Marked w (2 * n) (top-at w n k) → Marked v (2 * n) (top-at w n k)
+    direct-is : Marked w (direct-at n) (top-at w n k) → Marked v (direct-at n) (top-at w n k)
     direct-is d e = d (sym (D .direct (top-at w n k) top-zone) ∙ e)
 
     module _ (v' : List ℕ) (T : Tried v v' n (top-at w n k)) where
@@ -196,11 +200,11 @@ module _ (w : List ℕ) (n m : ℕ) (R : Choosable w n m) where
           (below? (C .at) k)
 
       -- what is chosen is picked
-      chosen : (b : ℕ) → b < n → Marked v' (3 * n) b → Picked w n (k + 1) b
+      chosen : (b : ℕ) → b < n → Marked v' (chosen-at n) b → Crossing-picked w n (k + 1) b
       chosen b h o =
           ⊎-elim
           (λ q. picked-more b (D .chosen b h q))
-          (λ (q : (b ≡ top-at w n k) × (Marked v (2 * n) (top-at w n k) × (Marked v 0 (top-at w n k) → ⊥))).
+          (λ (q : (b ≡ top-at w n k) × (Marked v (direct-at n) (top-at w n k) × (Marked v 0 (top-at w n k) → ⊥))).
           rw (q .0)
           (record {
             at = k;
@@ -212,7 +216,7 @@ module _ (w : List ℕ) (n m : ℕ) (R : Choosable w n m) where
           (T .new b h o)
 
       -- what is picked is chosen
-      picked : (b : ℕ) → b < n → Picked w n (k + 1) b → Marked v' (3 * n) b
+      picked : (b : ℕ) → b < n → Crossing-picked w n (k + 1) b → Marked v' (chosen-at n) b
       picked b h P =
           ⊎-elim
           (λ (l : P .at < k).
@@ -221,7 +225,7 @@ module _ (w : List ℕ) (n m : ℕ) (R : Choosable w n m) where
           (λ (l : k ≤ P .at).
           let e : P .at ≡ k = omega (arith, P .high) in
           let q : top-at w n k ≡ b = rw e at (P .is) in
-          let own : Marked w (2 * n) (top-at w n k) = rw q (P .direct) in
+          let own : Marked w (direct-at n) (top-at w n k) = rw q (P .direct) in
           let free : Came w n k (top-at w n k) → ⊥ = rw q (rw e at (P .free)) in
           rw q at (T .own (direct-is own) (λ o. free (D .sound (top-at w n k) top-zone o))))
           (below? (P .at) k)

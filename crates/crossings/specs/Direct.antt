@@ -1,5 +1,5 @@
--- What marking the components that arcs lead to asks and leaves. The marks stand from 2 n on.
---   Out w n a h d       the zone h is not of the component named a, but of the one named d
+-- What marking the components that arcs lead to asks and leaves.
+--   Leads-out w n a h d       the zone h is not of the component named a, but of the one named d
 --   Past w n a f i d    so is one of the heads that stand from place f up to place i
 --   Leads w n a z d     z is of the component named a, and an arc from z leads out of it, to the one named d
 --   Led w n a k d       an arc from a zone below k does
@@ -8,16 +8,16 @@
 use mathlib.Core.Path.{_≡_}
 use mathlib.Core.Logic.{_⊎_}
 use mathlib.Core.List.{List}
-use Prim.Native.Nat.{ℕ, _*_, _≤_, _<_}
+use Prim.Native.Nat.{ℕ, _≤_, _<_}
 use lib.ListN.{length, getD, take, drop}
-use Rattle.rows.specs.Rows.{Entry}
-use Rattle.rows.specs.Marks.{Marked}
-use Rattle.rows.specs.Work.{starts-at, rows-at}
+use Rattle.arranged.specs.Rows.{Entry}
+use Rattle.arranged.specs.Marks.{Marked}
+use Rattle.workmap.specs.Map.{search-at, rows-at}
 use Rattle.search.specs.Marking.{Laid}
-use Rattle.crossings.specs.Named.{name-at, rows-in}
+use Rattle.crossings.specs.Named.{name-at, named-rows, chosen-at, direct-at}
 
 -- the zone h is not of the component with the name a, but of the one with the name d
-pub record Out (w : List ℕ) (n a h d : ℕ) : Type 0 where
+pub record Leads-out (w : List ℕ) (n a h d : ℕ) : Type 0 where
   pub to : name-at w n h ≡ d
   pub other : d ≡ a → ⊥
 
@@ -26,14 +26,14 @@ pub record Past (w : List ℕ) (n a f i d : ℕ) : Type 0 where
   pub at : ℕ
   pub low : f ≤ at
   pub high : at < i
-  pub out : Out w n a (getD w at 0) d
+  pub out : Leads-out w n a (getD w at 0) d
 
 -- an arc from z leads from the component with the name a to another, with the name d
 pub record Leads (w : List ℕ) (n a z d : ℕ) : Type 0 where
   pub from : name-at w n z ≡ a
   pub head : ℕ
-  pub entry : Entry (rows-in w n) z head
-  pub out : Out w n a head d
+  pub entry : Entry (named-rows w n) z head
+  pub out : Leads-out w n a head d
 
 -- an arc from a zone below k does
 pub record Led (w : List ℕ) (n a k d : ℕ) : Type 0 where
@@ -43,14 +43,14 @@ pub record Led (w : List ℕ) (n a k d : ℕ) : Type 0 where
 
 -- the rows lie in the memory, and no name is above its zone
 pub record Directable (w : List ℕ) (n : ℕ) : Type 0 where
-  pub laid : Laid w n (starts-at n) (rows-at n) 0 n
+  pub laid : Laid w (rows-at n) (search-at n)
   pub lowest : (v : ℕ) → v < n → name-at w n v ≤ v
 
 -- only the marks change; the marks that were there are there, and one for each name that P holds of
 pub record Added (w w' : List ℕ) (n : ℕ) (P : ℕ → Type 0) : Type 0 where
   pub long : length w' ≡ length w
-  pub low : take (2 * n) w' ≡ take (2 * n) w
-  pub high : drop (3 * n) w' ≡ drop (3 * n) w
-  pub old : (v : ℕ) → v < n → Marked w (2 * n) v → Marked w' (2 * n) v
-  pub new : (v : ℕ) → v < n → Marked w' (2 * n) v → Marked w (2 * n) v ⊎ P v
-  pub own : (v : ℕ) → v < n → P v → Marked w' (2 * n) v
+  pub low : take (direct-at n) w' ≡ take (direct-at n) w
+  pub high : drop (chosen-at n) w' ≡ drop (chosen-at n) w
+  pub old : (v : ℕ) → v < n → Marked w (direct-at n) v → Marked w' (direct-at n) v
+  pub new : (v : ℕ) → v < n → Marked w' (direct-at n) v → Marked w (direct-at n) v ⊎ P v
+  pub own : (v : ℕ) → v < n → P v → Marked w' (direct-at n) v

@@ -3,84 +3,107 @@
 // each component that an arc leads to. Gone through in topological order, such a component is chosen unless a search
 // from one chosen before came to it: then that one lies between.
 ghost use Rattle.search.specs.Marking.{Clear};
-ghost use Rattle.crossings.specs.Direct.{Out, Leads, Led, Directable, Added};
+ghost use Rattle.crossings.specs.Direct.{Leads-out, Leads, Led, Directable, Added};
 ghost use Rattle.crossings.specs.Choosing.{Triable, Tried, Choosable, Choosing};
-ghost use Rattle.crossings.specs.Named.{Named, Crossed};
-ghost use Prim.Native.Nat.{_*_, _<_};
+ghost use Rattle.workmap.specs.Map.{map-of};
+ghost use Rattle.crossings.specs.Named.{tops-at, Named, Crossed};
+ghost use mathlib.Core.Path.{_≡_};
+ghost use Prim.Native.Nat.{_<_};
 use memory::wide;
 use search::search;
+use workmap::Map;
+use workmap::map_of;
 
 // Marks the name of the zone `head`, where it is another than `a`.
-fn note(work: &mut [u16], zones: usize, a: usize, head: u16)
-    requires { ⌜ Directable (now work) zones ⌝ }
-    requires { ⌜ head < zones ⌝ }
-    ensures { λ r. ⌜ Added (now (work .entry)) (now (work .exit)) zones (Out (now (work .entry)) zones a head) ⌝ }
+fn note(work: &mut [u16], m: Map, a: usize, head: u16)
+    requires { ⌜ Directable (now work) (m .zones) ⌝ }
+    requires { ⌜ head < m .zones ⌝ }
+    requires { ⌜ m ≡ map-of (m .zones) (m .arcs) ⌝ }
+    ensures { λ r. ⌜ Added (now (work .entry)) (now (work .exit)) (m .zones)
+        (Leads-out (now (work .entry)) (m .zones) a head) ⌝ }
 {
+    let names = m.names.names;
+    let direct = m.cross.direct;
     let h = wide(head);
-    let to = wide(work[5 * zones + h]);
+    let to = wide(work[names + h]);
     if to == a {
         return;
     }
-    work[2 * zones + to] = 1;
+    work[direct + to] = 1;
 }
 
 // Marks the name of every component that an arc from the zone `z` leads to, where `z` is of the one named `a`.
-fn mark_row(work: &mut [u16], zones: usize, a: usize, z: usize)
-    requires { ⌜ Directable (now work) zones ⌝ }
-    requires { ⌜ z < zones ⌝ }
-    ensures { λ r. ⌜ Added (now (work .entry)) (now (work .exit)) zones (Leads (now (work .entry)) zones a z) ⌝ }
+fn mark_row(work: &mut [u16], m: Map, a: usize, z: usize)
+    requires { ⌜ Directable (now work) (m .zones) ⌝ }
+    requires { ⌜ z < m .zones ⌝ }
+    requires { ⌜ m ≡ map-of (m .zones) (m .arcs) ⌝ }
+    ensures { λ r. ⌜ Added (now (work .entry)) (now (work .exit)) (m .zones)
+        (Leads (now (work .entry)) (m .zones) a z) ⌝ }
 {
-    let name = wide(work[5 * zones + z]);
+    let names = m.names.names;
+    let starts = m.rows.starts;
+    let rows = m.rows.rows;
+    let name = wide(work[names + z]);
     if name != a {
         return;
     }
-    let mut i = 13 * zones + 1 + wide(work[12 * zones + z]);
-    let end = 13 * zones + 1 + wide(work[12 * zones + z + 1]);
+    let mut i = rows + wide(work[starts + z]);
+    let end = rows + wide(work[starts + z + 1]);
     while i < end {
         let head = work[i];
-        note(work, zones, a, head);
+        note(work, m, a, head);
         i += 1;
     }
 }
 
 // Marks the name of every component that an arc leads to out of the component with the name `a`. No zone of it is
 // below `a`.
-fn mark_direct(work: &mut [u16], zones: usize, a: usize)
-    requires { ⌜ Directable (now work) zones ⌝ }
-    requires { ⌜ a < zones ⌝ }
-    ensures { λ r. ⌜ Added (now (work .entry)) (now (work .exit)) zones (Led (now (work .entry)) zones a zones) ⌝ }
+fn mark_direct(work: &mut [u16], m: Map, a: usize)
+    requires { ⌜ Directable (now work) (m .zones) ⌝ }
+    requires { ⌜ a < m .zones ⌝ }
+    requires { ⌜ m ≡ map-of (m .zones) (m .arcs) ⌝ }
+    ensures { λ r. ⌜ Added (now (work .entry)) (now (work .exit)) (m .zones)
+        (Led (now (work .entry)) (m .zones) a (m .zones)) ⌝ }
 {
+    let zones = m.zones;
     let mut z = a;
     while z < zones {
-        mark_row(work, zones, a, z);
+        mark_row(work, m, a, z);
         z += 1;
     }
 }
 
 // Chooses the name `c` where it is direct and no search came to it, and searches on from it.
-fn try_one(work: &mut [u16], zones: usize, c: usize)
-    requires { ⌜ Triable (now work) zones c ⌝ }
-    ensures { λ r. ⌜ Tried (now (work .entry)) (now (work .exit)) zones c ⌝ }
+fn try_one(work: &mut [u16], m: Map, c: usize)
+    requires { ⌜ Triable (now work) (m .zones) c ⌝ }
+    requires { ⌜ m ≡ map-of (m .zones) (m .arcs) ⌝ }
+    ensures { λ r. ⌜ Tried (now (work .entry)) (now (work .exit)) (m .zones) c ⌝ }
 {
-    if work[2 * zones + c] == 0 {
+    let at = m.search;
+    let marks = at.marks;
+    let direct = m.cross.direct;
+    let chosen = m.cross.chosen;
+    if work[direct + c] == 0 {
         return;
     }
-    if work[c] != 0 {
+    if work[marks + c] != 0 {
         return;
     }
-    work[3 * zones + c] = 1;
-    search(work, zones, 12 * zones, 13 * zones + 1, c, 0, zones);
+    work[chosen + c] = 1;
+    search(work, m.rows, at, c);
 }
 
 // Tries the names in topological order.
-fn choose(work: &mut [u16], zones: usize, names: usize)
-    requires { ⌜ Choosable (now work) zones names ⌝ }
-    ensures { λ r. ⌜ Choosing (now (work .entry)) (now (work .exit)) zones names ⌝ }
+fn choose(work: &mut [u16], m: Map, names: usize)
+    requires { ⌜ Choosable (now work) (m .zones) names ⌝ }
+    requires { ⌜ m ≡ map-of (m .zones) (m .arcs) ⌝ }
+    ensures { λ r. ⌜ Choosing (now (work .entry)) (now (work .exit)) (m .zones) names ⌝ }
 {
+    let tops = m.names.tops;
     let mut k = 0;
     while k < names {
-        let c = wide(work[4 * zones + k]);
-        try_one(work, zones, c);
+        let c = wide(work[tops + k]);
+        try_one(work, m, c);
         k += 1;
     }
 }
@@ -96,15 +119,17 @@ pub fn mark_crossings(
     a: usize,
 )
     requires { ⌜ Named (now work) zones (now tails) (now heads) names ⌝ }
-    requires { ⌜ Clear (now work) 0 (4 * zones) ⌝ }
+    requires { ⌜ Clear (now work) 0 (tops-at zones) ⌝ }
     requires { ⌜ a < zones ⌝ }
     ensures { λ r. ⌜ Crossed (now (work .entry)) (now (work .exit)) zones (now (tails .entry)) (now (heads .entry))
         a ⌝ }
 {
-    let name = wide(work[5 * zones + a]);
+    let m = map_of(zones, tails.len());
+    let named = m.names.names;
+    let name = wide(work[named + a]);
     if name != a {
         return;
     }
-    mark_direct(work, zones, a);
-    choose(work, zones, names);
+    mark_direct(work, m, a);
+    choose(work, m, names);
 }

@@ -1,25 +1,27 @@
 -- Tests over lists, one element at a time.
 --   raised-one    what `any` says of a list and one element more, as 1 or 0
 --   keep-keep     what passes two tests, one after the other, passes both
---   keep-run      how many of the numbers from a on pass a test, the first taken apart
+--   keep-put, keep-skip   what passes a test among one number more, where it passes and where it does not
+--   keep-few      no more pass than there are
 --   yes-zero, yes-one   a test's 1 or 0, compared;   both-ways   two tests, either way round
+--   own-name-no, own-entered-no, own-exited   the three tests of a kind, one after the other
 -- Assumes nothing.
 use mathlib.Core.Path.{_≡_, refl, sym, ap, _∙_}
 use mathlib.Core.Logic.{inl, inr, _≢_}
 use mathlib.Core.Bool.{Bool, true, false, not, _&&_}
-use mathlib.Core.List.{List, [], _∷_, _++_}
-use Prim.Native.Nat.{ℕ, suc, _+_, _*_, _-_, _≤_, _<_}
-use native.Mathlib.Omega.{arith}
-use native.Mathlib.Numerals.{add-one}
+use mathlib.Core.List.{List, [], _∷_, _++_, append-nil}
+use Prim.Native.Nat.{ℕ, _+_, _≤_}
 use lib.Dec.{eqb}
 use lib.ListN.{length}
 use borrow.Author.Tests.{eq-eqb, ne-eqb}
-use Rattle.rules.specs.Lists.{any, keep, run}
+use Rattle.rules.specs.Lists.{any, keep, span}
 use Rattle.rules.specs.Answers.{yes-number}
 use Rattle.theory.proofs.Ground.Bools.{bool-cases}
 use Rattle.theory.proofs.Ground.Lists.{any-hit, any-miss, keep-hit, keep-miss}
 use Rattle.theory.proofs.Ground.Counting.{keep-length}
-use Rattle.theory.proofs.Ground.Ascending.{run-length}
+use Rattle.theory.proofs.Ground.Ascending.{span-length}
+use Rattle.theory.proofs.Skeletons.SkeletonRows.{span-more}
+use Rattle.workmap.specs.declared.KindsAt.{KindsAt}
 use Rattle.memory.specs.Regions.{cell}
 use Rattle.kinds.specs.Kinds.{raised, own-kind}
 
@@ -58,21 +60,6 @@ keep-keep p q (x ∷ xs) = elim (bool-cases (p x)) [
       ∙ sym (keep-miss (λ x. p x && q x) xs (rw e))
 ]
 
--- How many of k + 1 numbers from z on pass a test: the first, and those behind it.
-keep-first : (p : ℕ → Bool) (z k : ℕ)
-    → length (keep p (run z (suc k))) ≡ yes-number (p z) + length (keep p (run (suc z) k))
-keep-first p z k = elim (bool-cases (p z)) [
-  | inl e ↦ rw (keep-hit p (run (suc z) k) e, e) (omega arith)
-  | inr e ↦ rw (keep-miss p (run (suc z) k) e, e) (omega arith)
-]
-
--- How many numbers from z up to n pass a test: the first, and those behind it.
-pub keep-run : (p : ℕ → Bool) (z n : ℕ) → z < n
-    → length (keep p (run z (n - z))) ≡ yes-number (p z) + length (keep p (run (z + 1) (n - (z + 1))))
-keep-run p z n l =
-    let e : n - z ≡ suc (n - suc z) = omega arith in
-    rw (add-one z, e) (keep-first p z (n - suc z))
-
 -- A test's 1 or 0 is 0 where the test says no.
 pub yes-zero : (b : Bool) → eqb (yes-number b) 0 ≡ not b
 yes-zero true = refl
@@ -90,27 +77,51 @@ both-ways true false = refl
 both-ways false true = refl
 both-ways false false = refl
 
--- A test counts for at most one more.
-pub keep-few : (p : ℕ → Bool) (z n : ℕ) → length (keep p (run z n)) ≤ n
-keep-few p z n = rw (run-length z n) at (keep-length p (run z n))
+-- What passes a test in two lists joined.
+keep-append : (p : ℕ → Bool) (xs ys : List ℕ) → keep p (xs ++ ys) ≡ keep p xs ++ keep p ys
+keep-append p [] ys = refl
+keep-append p (x ∷ xs) ys =
+    elim (bool-cases (p x)) [
+      | inl e ↦
+          keep-hit p (xs ++ ys) e
+          ∙ ap (λ (zs : List ℕ). x ∷ zs) (keep-append p xs ys)
+          ∙ ap (λ (zs : List ℕ). zs ++ keep p ys) (sym (keep-hit p xs e))
+      | inr e ↦
+          keep-miss p (xs ++ ys) e
+          ∙ keep-append p xs ys
+          ∙ ap (λ (zs : List ℕ). zs ++ keep p ys) (sym (keep-miss p xs e))
+    ]
+
+-- Among one number more that passes a test, it comes last.
+pub keep-put : (p : ℕ → Bool) (z : ℕ) → p z ≡ true → keep p (span 0 (z + 1)) ≡ keep p (span 0 z) ++ (z ∷ [])
+keep-put p z e =
+    ap (keep p) (span-more z)
+    ∙ keep-append p (span 0 z) (z ∷ [])
+    ∙ ap (λ (zs : List ℕ). keep p (span 0 z) ++ zs) (keep-hit p [] e)
+
+-- Among one number more that does not pass, the same pass.
+pub keep-skip : (p : ℕ → Bool) (z : ℕ) → p z ≡ false → keep p (span 0 (z + 1)) ≡ keep p (span 0 z)
+keep-skip p z e =
+    ap (keep p) (span-more z)
+    ∙ keep-append p (span 0 z) (z ∷ [])
+    ∙ ap (λ (zs : List ℕ). keep p (span 0 z) ++ zs) (keep-miss p [] e)
+    ∙ append-nil (keep p (span 0 z))
+
+-- No more pass than there are.
+pub keep-few : (p : ℕ → Bool) (z n : ℕ) → length (keep p (span z n)) ≤ n
+keep-few p z n = rw (span-length z n) at (keep-length p (span z n))
 
 -- the three tests of `own-kind`
-module _ (w : List ℕ) (n x y z : ℕ) where
+module _ (k : KindsAt) (x y : ℕ) (w : List ℕ) (z : ℕ) where
   -- The zone is no name.
-  pub own-name-no : cell w (5 * n) z ≢ z → 0 ≡ yes-number (own-kind w n x y z)
-  own-name-no a = rw (ne-eqb (cell w (5 * n) z) z a)
+  pub own-name-no : cell w (k .names) z ≢ z → false ≡ own-kind k x y w z
+  own-name-no a = rw (ne-eqb (cell w (k .names) z) z a)
 
   -- Another number stands in the region of what is entered.
-  pub own-into-no : cell w (5 * n) z ≡ z → cell w (2 * n) z ≢ x → 0 ≡ yes-number (own-kind w n x y z)
-  own-into-no a b = rw (eq-eqb (cell w (5 * n) z) z a, ne-eqb (cell w (2 * n) z) x b)
+  pub own-entered-no : cell w (k .names) z ≡ z → cell w (k .entered) z ≢ x → false ≡ own-kind k x y w z
+  own-entered-no a b = rw (eq-eqb (cell w (k .names) z) z a, ne-eqb (cell w (k .entered) z) x b)
 
-  -- Another number stands in the region of what is left.
-  pub own-left-no : cell w (5 * n) z ≡ z → cell w (2 * n) z ≡ x → cell w (3 * n) z ≢ y
-      → 0 ≡ yes-number (own-kind w n x y z)
-  own-left-no a b c =
-      rw (eq-eqb (cell w (5 * n) z) z a, eq-eqb (cell w (2 * n) z) x b, ne-eqb (cell w (3 * n) z) y c)
-
-  -- The zone is a name of the kind.
-  pub own-yes : cell w (5 * n) z ≡ z → cell w (2 * n) z ≡ x → cell w (3 * n) z ≡ y
-      → 1 ≡ yes-number (own-kind w n x y z)
-  own-yes a b c = rw (eq-eqb (cell w (5 * n) z) z a, eq-eqb (cell w (2 * n) z) x b, eq-eqb (cell w (3 * n) z) y c)
+  -- What stands in the region of what is left tells.
+  pub own-exited : cell w (k .names) z ≡ z → cell w (k .entered) z ≡ x
+      → eqb (cell w (k .exited) z) y ≡ own-kind k x y w z
+  own-exited a b = rw (eq-eqb (cell w (k .names) z) z a, eq-eqb (cell w (k .entered) z) x b)

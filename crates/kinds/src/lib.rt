@@ -1,15 +1,16 @@
-// The kinds of the components: for every name whether an arc comes into its component from another and whether one
-// goes out to another, by one pass over the arcs, and how many components are sources, sinks and alone, by passes
-// over the zones. Each zone's name stands in lent work memory from 5 n on, as the crate `components` leaves it; what
-// comes in is noted from 2 n on, what goes out from 3 n on, n being the number of zones.
+// The kinds of the components, in lent work memory, where each zone's name stands: for every name whether an arc comes
+// into its component from another and whether one goes out to another, by one pass over the arcs; then the names of the
+// sources, of the sinks and of the components alone, as three ascending lists, and how many there are, by a pass over
+// the zones for each. The map says where everything stands.
+use workmap::KindsAt;
+use workmap::ListsAt;
 ghost use mathlib.Core.Path.{_≡_};
 ghost use Prim.Native.Nat.{_<_};
 ghost use lib.ListN.{length};
-ghost use Rattle.rules.specs.Lists.{run, keep};
 ghost use Rattle.rules.specs.Network.{network-of};
 ghost use Rattle.rules.specs.Calls.{arcs-of};
-ghost use Rattle.rules.specs.Answers.{yes-number};
-ghost use Rattle.kinds.specs.Kinds.{Room, Noted, Markable, Marking, own-kind, Nameful, Kinds};
+ghost use Rattle.kinds.specs.Kinds.{Kinds-room, Noted, Markable, Marking, own-kind};
+ghost use Rattle.kinds.specs.Lists.{Listable, Listing, Nameable, Listed};
 
 // How many components are sources, sinks and alone.
 pub struct Counts {
@@ -19,76 +20,88 @@ pub struct Counts {
 }
 
 // Notes an arc at the names of its ends, where they differ.
-fn note(work: &mut [u16], zones: usize, tail: u16, head: u16)
-    requires { ⌜ Room (now work) zones × ((tail < zones) × (head < zones)) ⌝ }
-    ensures { λ _. ⌜ Noted (now (work .entry)) (now (work .exit)) zones tail head ⌝ }
+fn note(at: KindsAt, tail: u16, head: u16, work: &mut [u16])
+    requires { ⌜ Kinds-room at (now work) × ((tail < at .zones) × (head < at .zones)) ⌝ }
+    ensures { λ _. ⌜ Noted at tail head (now (work .entry)) (now (work .exit)) ⌝ }
 {
-    let t = 5 * zones + memory::wide(tail);
-    let h = 5 * zones + memory::wide(head);
+    let names = at.names;
+    let entered = at.entered;
+    let exited = at.exited;
+    let t = names + memory::wide(tail);
+    let h = names + memory::wide(head);
     let a = memory::wide(work[t]);
     let b = memory::wide(work[h]);
     if a == b {
         return;
     }
-    work[2 * zones + b] = 1;
-    work[3 * zones + a] = 1;
+    work[entered + b] = 1;
+    work[exited + a] = 1;
 }
 
 // Notes every arc. The two regions are clear at the start.
-fn mark(tails: &[u16], heads: &[u16], work: &mut [u16], zones: usize)
-    requires { ⌜ Markable (now work) (now tails) (now heads) zones ⌝ }
-    ensures { λ _. ⌜ Marking (now (work .entry)) (now (work .exit)) zones
-        (arcs-of (now (tails .entry)) (now (heads .entry))) (length (now (tails .entry))) ⌝ }
+fn mark(at: KindsAt, tails: &[u16], heads: &[u16], work: &mut [u16])
+    requires { ⌜ Markable at (now tails) (now heads) (now work) ⌝ }
+    ensures { λ _. ⌜ Marking at (arcs-of (now (tails .entry)) (now (heads .entry))) (length (now (tails .entry)))
+        (now (work .entry)) (now (work .exit)) ⌝ }
 {
     let mut i = 0;
     while i < tails.len() {
-        note(work, zones, tails[i], heads[i]);
+        note(at, tails[i], heads[i], work);
         i += 1;
     }
 }
 
-// 1 where z is a name with x in the region of what is entered and y in the region of what is left, else 0.
-pub fn kind(work: &[u16], zones: usize, z: usize, x: u16, y: u16) -> usize
-    requires { ⌜ Room (now work) zones × (z < zones) ⌝ }
-    ensures { λ r. ⌜ r ≡ yes-number (own-kind (now (work .entry)) zones x y z) ⌝ }
+// Whether z is a name, with x in the region of what is entered and y in the region of what is left.
+fn of_kind(at: KindsAt, x: u16, y: u16, z: usize, work: &[u16]) -> bool
+    requires { ⌜ Kinds-room at (now work) × (z < at .zones) ⌝ }
+    ensures { λ r. ⌜ r ≡ own-kind at x y (now (work .entry)) z ⌝ }
 {
-    let n = memory::wide(work[5 * zones + z]);
+    let names = at.names;
+    let entered = at.entered;
+    let exited = at.exited;
+    let n = memory::wide(work[names + z]);
     if n != z {
-        return 0;
+        return false;
     }
-    if work[2 * zones + z] != x {
-        return 0;
+    if work[entered + z] != x {
+        return false;
     }
-    if work[3 * zones + z] != y {
-        return 0;
-    }
-    1
+    work[exited + z] == y
 }
 
-// How many names have x in the region of what is entered and y in the region of what is left.
-fn count(work: &[u16], zones: usize, x: u16, y: u16) -> usize
-    requires { ⌜ Room (now work) zones ⌝ }
-    ensures { λ r. ⌜ r ≡ length (keep (own-kind (now (work .entry)) zones x y) (run 0 zones)) ⌝ }
+// The names of the kind that x and y tell go to `to`, and the answer is how many there are.
+fn list(at: KindsAt, x: u16, y: u16, to: usize, work: &mut [u16]) -> usize
+    requires { ⌜ Listable at to (now work) ⌝ }
+    ensures { λ r. ⌜ Listing at x y to (at .zones) r (now (work .entry)) (now (work .exit)) ⌝ }
 {
-    let mut r = 0;
+    let mut count = 0;
     let mut z = 0;
-    while z < zones {
-        r += kind(work, zones, z, x, y);
+    while z < at.zones {
+        if of_kind(at, x, y, z, work) {
+            work[to + count] = z as u16;
+            count += 1;
+        }
         z += 1;
     }
-    r
+    count
 }
 
-// Finds which components are entered and left, and how many there are of each kind.
-pub fn find(tails: &[u16], heads: &[u16], work: &mut [u16], zones: usize) -> Counts
-    requires { ⌜ Nameful (now work) (now tails) (now heads) zones ⌝ }
-    ensures { λ r. ⌜ Kinds (now (work .entry)) (now (work .exit)) zones
-        (network-of zones (arcs-of (now (tails .entry)) (now (heads .entry)))) r ⌝ }
+// Finds which components are entered and left, lists the names of each kind, and answers how many there are.
+pub fn list_kinds(
+    at: KindsAt,
+    to: ListsAt,
+    tails: &[u16],
+    heads: &[u16],
+    work: &mut [u16],
+) -> Counts
+    requires { ⌜ Nameable at to (now tails) (now heads) (now work) ⌝ }
+    ensures { λ r. ⌜ Listed at to (network-of (at .zones) (arcs-of (now (tails .entry)) (now (heads .entry)))) r
+        (now (work .entry)) (now (work .exit)) ⌝ }
 {
-    mark(tails, heads, work, zones);
-    let sources = count(work, zones, 0, 1);
-    let sinks = count(work, zones, 1, 0);
-    let alone = count(work, zones, 0, 0);
+    mark(at, tails, heads, work);
+    let sources = list(at, 0, 1, to.sources, work);
+    let sinks = list(at, 1, 0, to.sinks, work);
+    let alone = list(at, 0, 0, to.alone, work);
     Counts {
         sources: sources,
         sinks: sinks,

@@ -4,24 +4,17 @@
 --   printed-refused, printed-done   what is printed then
 -- The answer says what reading finds, and DONE is told from a refusal by its number. Assumes nothing.
 use Prim.Native.Nat.{ℕ}
-use native.Mathlib.Omega.{arith}
 use mathlib.Core.Path.{_≡_, refl, sym, ap}
 use mathlib.Core.List.{List, [], _∷_}
 use lib.ListN.{length}
 use Rattle.rules.specs.declared.Trouble.{Trouble}
 use Rattle.rules.specs.declared.ReadAnswer.{ReadAnswer}
-use Rattle.rules.specs.Answers.{Refusal, Told, done, refused, trouble-refusal, read-told}
+use Rattle.rules.specs.Answers.{Told, done, refused, read-told}
 use Rattle.rules.specs.Number.{Reading, got, bad}
 use Rattle.rules.specs.File.{Given, file-at}
-use Rattle.rules.specs.Calls.{read-finds, read-says}
 use Rattle.rules.specs.Text.{printed, plan-lines, refusal-line}
 use Rattle.rules.specs.Calls.{found-says}
-use Rattle.theory.proofs.Files.AnswerLaws.{done-not-refused}
-use Rattle.linkplan.proofs.Numbered.{file-numbered}
-
--- a refusal is told by its number and its place
-refusal-once : (t u : Refusal) → refused 2 t ≡ refused 2 u → t ≡ u
-refusal-once t u e = ap (λ (a : Told). record { number = a .number; place = a .place }) e
+use Rattle.theory.proofs.Files.AnswerLaws.{refused-once, done-not-refused}
 
 -- a file that was read: the network that was found, with its counts
 pub record Found (s : List ℕ) (a b n m : ℕ) : Type 0 where
@@ -33,31 +26,28 @@ pub record Found (s : List ℕ) (a b n m : ℕ) : Type 0 where
 
 module _ (s ts hs : List ℕ) where
   -- an answer that refuses says the trouble that reading finds
-  pub read-refused : (t : Trouble) → read-told (ReadAnswer.Refused t) ≡ read-says s ts hs
-      → file-at s (length ts) (length hs) ≡ bad (trouble-refusal t)
-  unfolding read-says read-finds
+  pub read-refused : (t : Trouble) → read-told (ReadAnswer.Refused t) ≡ found-says (file-at s (length ts) (length hs))
+      → file-at s (length ts) (length hs) ≡ bad t
   read-refused t e = go (file-at s (length ts) (length hs)) e
     where
-      go : (r : Reading Given) → refused 2 (trouble-refusal t) ≡ found-says r → r ≡ bad (trouble-refusal t)
-      go (bad u) e = ap bad (sym (refusal-once (trouble-refusal t) u e))
+      go : (r : Reading Given) → refused 2 t ≡ found-says r → r ≡ bad t
+      go (bad u) e = ap bad (sym (refused-once 2 t u e))
       go (got g end) e = absurd (done-not-refused 2 _ t (sym e))
 
   -- an answer of two counts says those of the network that reading finds
-  pub read-done : (n m : ℕ) → read-told (ReadAnswer.Done n m) ≡ read-says s ts hs
+  pub read-done : (n m : ℕ) → read-told (ReadAnswer.Done n m) ≡ found-says (file-at s (length ts) (length hs))
       → Found s (length ts) (length hs) n m
-  unfolding read-says read-finds
   read-done n m e = go (file-at s (length ts) (length hs)) refl e
     where
       go : (r : Reading Given) → file-at s (length ts) (length hs) ≡ r → done (n ∷ m ∷ []) ≡ found-says r
           → Found s (length ts) (length hs) n m
-      go (bad u) f e =
-          absurd (omega (arith, file-numbered s (length ts) (length hs) f, ap (λ (a : Told). a .number) e))
+      go (bad u) f e = absurd (done-not-refused 2 _ u e)
       go (got g end) f e =
           let v : n ∷ m ∷ [] ≡ g .zones ∷ length (g .arcs) ∷ [] = ap (λ (a : Told). a .values) e in
           record { given = g; end = end; finds = f; zones = cc; count = cc }
 
 -- a file that is refused prints the line of its trouble
-pub printed-refused : (s : List ℕ) {t : Refusal} → file-at s 4096 4096 ≡ bad t → printed s ≡ refusal-line t
+pub printed-refused : (s : List ℕ) {t : Trouble} → file-at s 4096 4096 ≡ bad t → printed s ≡ refusal-line t
 unfolding printed
 printed-refused s e = rw (e, printed)
 

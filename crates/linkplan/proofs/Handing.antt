@@ -2,37 +2,39 @@
 --   refused-prints     a file that was refused prints the line of the trouble
 --   Handed ..          the network that was read, and the parts of the two lists that hold it
 --   read-hands         a file that was read hands on such a network
---   handed-plannable   which passes every test of PLAN
+--   handed-plannable   which passes every test of a network
 --   handed-prints      and the lines of whose plan are printed
 -- The promise of reading says what is found, and an accepted file holds a network that a call accepts. Assumes
 -- nothing.
 use Prim.Native.Nat.{ℕ, _≤_}
 use native.Mathlib.Omega.{arith}
-use mathlib.Core.Path.{_≡_, refl, sym, ap, _∙_}
+use mathlib.Core.Path.{_≡_, sym, ap, ap₂, _∙_}
 use mathlib.Core.List.{List, map}
 use lib.ListN.{length, take, drop, length-append, length-map}
 use lib.Seq.{take-at}
 use Rattle.rules.specs.declared.Trouble.{Trouble}
 use Rattle.rules.specs.declared.ReadAnswer.{ReadAnswer}
 use Rattle.rules.specs.Lists.{over}
-use Rattle.rules.specs.Answers.{trouble-refusal, read-told}
-use Rattle.rules.specs.Network.{Arc}
-use Rattle.rules.specs.File.{Given, Acceptable}
-use Rattle.rules.specs.Calls.{read-finds, read-leaves-tails, read-leaves-heads}
+use Rattle.rules.specs.Answers.{read-told}
+use Rattle.rules.specs.Network.{Arc, arc-tails, arc-heads}
+use Rattle.rules.specs.File.{Given, Acceptable, file-at}
+use Rattle.rules.specs.Number.{Reading}
+use Rattle.rules.specs.Calls.{found-tails, found-heads}
+use Rattle.rules.specs.Promises.{Read-promise}
+use Rattle.theory.proofs.Ground.ArcLists.{arcs-split}
 use Rattle.rules.specs.Text.{printed, plan-lines, refusal-line}
-use Rattle.netfile.specs.Promises.{Read-promise}
 use Rattle.theory.proofs.Files.FileLaws.{accepted-acceptable}
-use Rattle.linkplan.specs.Buffers.{Plannable, handed-lines}
+use Rattle.linkplan.specs.Buffers.{Plan-lent, handed-lines}
 use Rattle.linkplan.proofs.Found.{read-refused, read-done, printed-refused, printed-done}
-use Rattle.linkplan.proofs.Accepted.{tails-of, heads-of, arcs-split, plan-passes}
+use Rattle.linkplan.proofs.Accepted.{network-passes}
 
 -- the network that was read of the file s, and the parts of the two lists that hold its m arcs
 pub record Handed (s : List ℕ) (n m : ℕ) (ts hs : List ℕ) : Type 0 where
   pub given : Given
   pub acceptable : Acceptable given
   pub zones : given .zones ≡ n
-  pub tails : take m ts ≡ tails-of (given .arcs)
-  pub heads : take m hs ≡ heads-of (given .arcs)
+  pub tails : take m ts ≡ arc-tails (given .arcs)
+  pub heads : take m hs ≡ arc-heads (given .arcs)
   pub tails-fit : m ≤ length ts
   pub heads-fit : m ≤ length hs
   pub prints : printed s ≡ plan-lines given
@@ -45,22 +47,21 @@ column-part f es old {xs} {m} e l =
     let count : length (map f es) ≡ m = length-map es f ∙ l in
     (ap (take m) e ∙ take-at (map f es) rest m count, omega (arith, ap length e, length-append (map f es) rest))
 
-module _ {s ts hs ts' hs' : List ℕ} {a : ReadAnswer} (k : Read-promise s ts hs a ts' hs')
+module _ {s ts hs ts' hs' : List ℕ} {a : ReadAnswer} (k : Read-promise s ts hs ts' hs' (read-told a))
     (x : length ts ≡ 4096) (y : length hs ≡ 4096) where
   -- a file that was refused prints the line of the trouble
-  pub refused-prints : {t : Trouble} → a ≡ ReadAnswer.Refused t → printed s ≡ refusal-line (trouble-refusal t)
+  pub refused-prints : {t : Trouble} → a ≡ ReadAnswer.Refused t → printed s ≡ refusal-line t
   refused-prints {t} e =
       let f = read-refused s ts hs t (sym (ap read-told e) ∙ k .says) in
       printed-refused s (rw (x, y) at f)
 
   -- a file that was read hands on its network
   pub read-hands : {n m : ℕ} → a ≡ ReadAnswer.Done n m → Handed s n m ts' hs'
-  unfolding read-leaves-tails read-leaves-heads read-finds
   read-hands {n} {m} e =
       let f = read-done s ts hs n m (sym (ap read-told e) ∙ k .says) in
       let es = f .given .arcs in
-      let t-is : ts' ≡ over (tails-of es) ts = k .tails ∙ rw (f .finds, read-leaves-tails) refl in
-      let h-is : hs' ≡ over (heads-of es) hs = k .heads ∙ rw (f .finds, read-leaves-heads) refl in
+      let t-is : ts' ≡ over (arc-tails es) ts = k .tails ∙ ap (λ (r : Reading Given). found-tails r ts) (f .finds) in
+      let h-is : hs' ≡ over (arc-heads es) hs = k .heads ∙ ap (λ (r : Reading Given). found-heads r hs) (f .finds) in
       let t = column-part (λ (e : Arc). e .tail) es ts t-is (f .count) in
       let h = column-part (λ (e : Arc). e .head) es hs h-is (f .count) in
       record {
@@ -71,19 +72,15 @@ module _ {s ts hs ts' hs' : List ℕ} {a : ReadAnswer} (k : Read-promise s ts hs
         heads = h .0;
         tails-fit = t .1;
         heads-fit = h .1;
-        prints = printed-done s (rw (x, y) at (f .finds));
+        prints = printed-done s (sym (ap₂ (λ (p q : ℕ). file-at s p q) x y) ∙ f .finds);
       }
 
 module _ {s : List ℕ} {n m : ℕ} {ts hs : List ℕ} (k : Handed s n m ts hs) where
-  -- the network that was read passes every test of PLAN, where enough is lent
-  pub handed-plannable : (work starts ends whys out : List ℕ) → 28672 ≤ length work → 1024 ≤ length starts
-      → 1024 ≤ length ends → 1024 ≤ length whys → 20000 ≤ length out
-      → Plannable n (take m ts) (take m hs) work starts ends whys out
-  handed-plannable work starts ends whys out w f t y o =
+  -- the network that was read passes its tests, and the buffer has room
+  pub handed-plannable : (out : List ℕ) → 20000 ≤ length out → Plan-lent n (take m ts) (take m hs) out
+  handed-plannable out o =
       record {
-        fine =
-            rw (k .tails, k .heads, sym (k .zones))
-            (plan-passes (k .given) (k .acceptable) work starts ends whys w f t y);
+        fine = rw (k .tails, k .heads, sym (k .zones)) (network-passes (k .given) (k .acceptable));
         lines-fit = o;
       }
 

@@ -8,7 +8,7 @@
 -- nothing.
 use mathlib.Core.Path.{_≡_, refl, sym, ap, _∙_}
 use mathlib.Core.List.{List, _++_, map, append-assoc}
-use Prim.Native.Nat.{ℕ, zero, suc, _+_, _*_, _-_, _≤_, _<_, min}
+use Prim.Native.Nat.{ℕ, zero, suc, _+_, _-_, _≤_, _<_, min}
 use native.Mathlib.Nat.{zero-add}
 use native.Mathlib.Omega.{arith}
 use lib.ListN.{length, take, drop, length-append}
@@ -18,9 +18,9 @@ use Rattle.theory.proofs.Ground.Storing.{sets-append}
 use Rattle.memory.specs.Regions.{part}
 use Rattle.memory.proofs.Regions.{part-long, part-take, part-drop, part-kept}
 use Rattle.links.specs.declared.Counts.{Counts}
-use Rattle.links.specs.declared.Places.{Places}
+use Rattle.workmap.specs.declared.Side.{Side}
 use Rattle.memory.specs.Storing.{Copied}
-use Rattle.links.specs.Linking.{couples, stations-in, first-at, Placed, Stationed}
+use Rattle.links.specs.Linking.{couples, stations-in, first-at, stations-end, Lists-apart, Stationed}
 use Rattle.memory.proofs.Stores.{drop-sets}
 use Rattle.links.proofs.Shapes.{couples-v, last-sink-drop, first-of-take}
 
@@ -84,48 +84,51 @@ piece-more w w₁ w₂ st xs from n to at low e C =
     ∙ ap (λ (k : ℕ). sets (sets w st xs) k (part w from n)) at
     ∙ sym (sets-append w st xs (part w from n))
 
-module _ (w : List ℕ) (zones : ℕ) (n : Counts) (p : Places) (P : Placed w zones n p) where
+module _ (w : List ℕ) (n : Counts) (p : Side) (P : Lists-apart w n p) where
   -- the last pair's sink
   abbrev last-part : List ℕ
-  last-part = part w (p .w + (n .pairs - min 1 (n .pairs))) (min 1 (n .pairs))
+  last-part = part w (p .pairs .seconds + (n .pairs - min 1 (n .pairs))) (min 1 (n .pairs))
 
   -- the surplus sinks
   abbrev surplus-part : List ℕ
-  surplus-part = part w (p .sinks + n .sources) (n .sinks - n .sources)
+  surplus-part = part w (p .lists .sinks + n .sources) (n .sinks - n .sources)
 
   -- the zones alone
   abbrev alone-part : List ℕ
-  alone-part = part w (p .alone) (n .alone)
+  alone-part = part w (p .lists .alone) (n .alone)
 
   -- the first pair's source, or the first zone alone
   abbrev first-part : List ℕ
-  first-part = part w (first-at (n .pairs) (p .v) (p .alone)) (min 1 (n .pairs + n .alone))
+  first-part = part w (first-at (n .pairs) (p .pairs .firsts) (p .lists .alone)) (min 1 (n .pairs + n .alone))
 
   -- the pairs' sources and sinks are as many
-  pub as-many : length (part w (p .v) (n .pairs)) ≡ length (part w (p .w) (n .pairs))
+  pub as-many : length (part w (p .pairs .firsts) (n .pairs)) ≡ length (part w (p .pairs .seconds) (n .pairs))
   as-many =
-      part-long w (p .v) (n .pairs) (omega (arith, P .v-fits, P .why-fits))
-      ∙ sym (part-long w (p .w) (n .pairs) (omega (arith, P .w-fits, P .why-fits)))
+      part-long w (p .pairs .firsts) (n .pairs) (omega (arith, P .v-fits, P .why-fits))
+      ∙ sym (part-long w (p .pairs .seconds) (n .pairs) (omega (arith, P .w-fits, P .why-fits)))
 
   -- the four pieces together are the stations
   stations-pieces : ((last-part ++ surplus-part) ++ alone-part) ++ first-part ≡ stations-in w n p
   unfolding stations-in stations middle
   stations-pieces =
-      let vs : List ℕ = part w (p .v) (n .pairs) in
-      let ws : List ℕ = part w (p .w) (n .pairs) in
-      let long : length ws ≡ n .pairs = part-long w (p .w) (n .pairs) (omega (arith, P .w-fits, P .why-fits)) in
-      let lone : length (part w (p .sources) (n .sources)) ≡ n .sources =
-      part-long w (p .sources) (n .sources) (omega (arith, P .sources-fit, P .why-fits))
+      let vs : List ℕ = part w (p .pairs .firsts) (n .pairs) in
+      let ws : List ℕ = part w (p .pairs .seconds) (n .pairs) in
+      let long : length ws ≡ n .pairs = part-long w (p .pairs .seconds) (n .pairs)
+      (omega (arith, P .w-fits, P .why-fits)) in
+      let lone : length (part w (p .pairs .lone) (n .sources)) ≡ n .sources =
+      part-long w (p .pairs .lone) (n .sources) (omega (arith, P .sources-fit, P .why-fits))
       in
       let a : last-part ≡ last-sink (couples vs ws) =
-      last-piece w (p .w) (n .pairs) ∙ ap (λ (k : ℕ). drop (k - 1) ws) (sym long) ∙ sym (last-sink-drop vs ws as-many)
+      last-piece w (p .pairs .seconds) (n .pairs) ∙ ap (λ (k : ℕ). drop (k - 1) ws) (sym long) ∙ sym
+      (last-sink-drop vs ws as-many)
       in
-      let b : surplus-part ≡ drop (length (part w (p .sources) (n .sources))) (part w (p .sinks) (n .sinks)) =
-      surplus-piece w (p .sinks) (n .sources) (n .sinks) (P .order)
-      ∙ ap (λ (k : ℕ). drop k (part w (p .sinks) (n .sinks))) (sym lone)
+      let b : surplus-part ≡ drop (length (part w (p .pairs .lone) (n .sources)))
+      (part w (p .lists .sinks) (n .sinks)) =
+      surplus-piece w (p .lists .sinks) (n .sources) (n .sinks) (P .order)
+      ∙ ap (λ (k : ℕ). drop k (part w (p .lists .sinks) (n .sinks))) (sym lone)
       in
       let d : first-part ≡ first-of (map (λ (a : Couple). a .v) (couples vs ws) ++ alone-part) =
-      first-piece w (n .pairs) (n .alone) (p .v) (p .alone) (omega (arith, P .v-fits, P .why-fits))
+      first-piece w (n .pairs) (n .alone) (p .pairs .firsts) (p .lists .alone) (omega (arith, P .v-fits, P .why-fits))
       ∙ sym (first-of-take (vs ++ alone-part))
       ∙ ap (λ (l : List ℕ). first-of (l ++ alone-part)) (sym (couples-v vs ws as-many))
       in
@@ -134,24 +137,28 @@ module _ (w : List ℕ) (zones : ℕ) (n : Counts) (p : Places) (P : Placed w zo
   -- the length of the last pair's sink
   last-long : length last-part ≡ min 1 (n .pairs)
   last-long =
-      part-long w (p .w + (n .pairs - min 1 (n .pairs))) (min 1 (n .pairs)) (omega (arith, P .w-fits, P .why-fits))
+      part-long w (p .pairs .seconds + (n .pairs - min 1 (n .pairs))) (min 1 (n .pairs))
+      (omega (arith, P .w-fits, P .why-fits))
 
   -- the length of the surplus sinks
   surplus-long : length surplus-part ≡ n .sinks - n .sources
   surplus-long =
-      part-long w (p .sinks + n .sources) (n .sinks - n .sources) (omega (arith, P .sinks-fit, P .why-fits, P .order))
+      part-long w (p .lists .sinks + n .sources) (n .sinks - n .sources)
+      (omega (arith, P .sinks-fit, P .why-fits, P .order))
 
   -- the length of the zones alone
   alone-long : length alone-part ≡ n .alone
-  alone-long = part-long w (p .alone) (n .alone) (omega (arith, P .alone-fit, P .why-fits))
+  alone-long = part-long w (p .lists .alone) (n .alone) (omega (arith, P .alone-fit, P .why-fits))
 
   -- the length of the last station
   first-long : length first-part ≡ min 1 (n .pairs + n .alone)
   first-long =
-      let inside = first-inside 0 (length w) (n .pairs) (n .alone) (p .v) (p .alone) (omega arith) (omega arith)
+      let inside = first-inside 0 (length w) (n .pairs) (n .alone) (p .pairs .firsts) (p .lists .alone) (omega arith)
+      (omega arith)
       (omega (arith, P .v-fits, P .why-fits)) (omega (arith, P .alone-fit, P .why-fits))
       in
-      part-long w (first-at (n .pairs) (p .v) (p .alone)) (min 1 (n .pairs + n .alone)) (omega (arith, inside .1))
+      part-long w (first-at (n .pairs) (p .pairs .firsts) (p .lists .alone)) (min 1 (n .pairs + n .alone))
+      (omega (arith, inside .1))
 
   -- how many stations there are
   pub stations-long : length (stations-in w n p)
@@ -162,36 +169,38 @@ module _ (w : List ℕ) (zones : ℕ) (n : Counts) (p : Places) (P : Placed w zo
 
   -- four copies put the stations
   pub stationed : (w₁ w₂ w₃ w₄ : List ℕ) (last first start : ℕ) →
-      last ≡ min 1 (n .pairs) → first ≡ min 1 (n .pairs + n .alone) → start ≡ first-at (n .pairs) (p .v) (p .alone) →
-      Copied w w₁ (p .w + (n .pairs - last)) last (p .stations) →
-      Copied w₁ w₂ (p .sinks + n .sources) (n .sinks - n .sources) (p .stations + last) →
-      Copied w₂ w₃ (p .alone) (n .alone) (p .stations + (last + (n .sinks - n .sources))) →
-      Copied w₃ w₄ start first (p .stations + (last + (n .sinks - n .sources) + n .alone)) →
+      last ≡ min 1 (n .pairs) → first ≡ min 1 (n .pairs + n .alone) → start ≡ first-at (n .pairs) (p .pairs .firsts)
+      (p .lists .alone) →
+      Copied w w₁ (p .pairs .seconds + (n .pairs - last)) last (p .links .stations) →
+      Copied w₁ w₂ (p .lists .sinks + n .sources) (n .sinks - n .sources) (p .links .stations + last) →
+      Copied w₂ w₃ (p .lists .alone) (n .alone) (p .links .stations + (last + (n .sinks - n .sources))) →
+      Copied w₃ w₄ start first (p .links .stations + (last + (n .sinks - n .sources) + n .alone)) →
       Stationed w w₄ n p (last + (n .sinks - n .sources) + n .alone + first)
   stationed w₁ w₂ w₃ w₄ last first start l f s K₁ K₂ K₃ K₄ =
-      let inside = first-inside (p .stations + 2 * zones) (length w) (n .pairs) (n .alone) (p .v) (p .alone)
+      let inside = first-inside (stations-end p) (length w) (n .pairs) (n .alone) (p .pairs .firsts) (p .lists .alone)
       (P .v-apart) (P .alone-apart) (omega (arith, P .v-fits, P .why-fits)) (omega (arith, P .alone-fit, P .why-fits))
       in
-      let e₁ : w₁ ≡ sets w (p .stations) last-part = rw l at (K₁ .is) in
-      let e₂ : w₂ ≡ sets w (p .stations) (last-part ++ surplus-part) =
-      piece-more w w₁ w₂ (p .stations) last-part (p .sinks + n .sources) (n .sinks - n .sources) (p .stations + last)
+      let e₁ : w₁ ≡ sets w (p .links .stations) last-part = rw l at (K₁ .is) in
+      let e₂ : w₂ ≡ sets w (p .links .stations) (last-part ++ surplus-part) =
+      piece-more w w₁ w₂ (p .links .stations) last-part (p .lists .sinks + n .sources) (n .sinks - n .sources)
+      (p .links .stations + last)
       (omega (arith, last-long)) (omega (arith, P .sinks-apart, P .room)) e₁ K₂
       in
       let ab : length (last-part ++ surplus-part) ≡ last + (n .sinks - n .sources) =
       simp length-append (omega (arith, last-long, surplus-long))
       in
-      let e₃ : w₃ ≡ sets w (p .stations) ((last-part ++ surplus-part) ++ alone-part) =
-      piece-more w w₂ w₃ (p .stations) (last-part ++ surplus-part) (p .alone) (n .alone)
-      (p .stations + (last + (n .sinks - n .sources)))
+      let e₃ : w₃ ≡ sets w (p .links .stations) ((last-part ++ surplus-part) ++ alone-part) =
+      piece-more w w₂ w₃ (p .links .stations) (last-part ++ surplus-part) (p .lists .alone) (n .alone)
+      (p .links .stations + (last + (n .sinks - n .sources)))
       (omega (arith, ab)) (omega (arith, P .alone-apart, P .room)) e₂ K₃
       in
       let abc : length ((last-part ++ surplus-part) ++ alone-part) ≡ last + (n .sinks - n .sources) + n .alone =
       simp length-append (omega (arith, last-long, surplus-long, alone-long))
       in
-      let e₄ : w₄ ≡ sets w (p .stations) (((last-part ++ surplus-part) ++ alone-part) ++ first-part) =
-      piece-more w w₃ w₄ (p .stations) ((last-part ++ surplus-part) ++ alone-part)
-      (first-at (n .pairs) (p .v) (p .alone)) (min 1 (n .pairs + n .alone))
-      (p .stations + (last + (n .sinks - n .sources) + n .alone)) (omega (arith, abc))
+      let e₄ : w₄ ≡ sets w (p .links .stations) (((last-part ++ surplus-part) ++ alone-part) ++ first-part) =
+      piece-more w w₃ w₄ (p .links .stations) ((last-part ++ surplus-part) ++ alone-part)
+      (first-at (n .pairs) (p .pairs .firsts) (p .lists .alone)) (min 1 (n .pairs + n .alone))
+      (p .links .stations + (last + (n .sinks - n .sources) + n .alone)) (omega (arith, abc))
       (omega (arith, inside .0, P .room)) e₃ (rw (f, s) at K₄)
       in
       record {

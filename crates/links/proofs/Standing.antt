@@ -9,7 +9,7 @@ use lib.ListN.{length, length-map}
 use Rattle.rules.specs.Plan.{Couple, Ordering, links}
 use Rattle.memory.specs.Regions.{part, Holds}
 use Rattle.links.specs.declared.Counts.{Counts}
-use Rattle.links.specs.declared.Places.{Places}
+use Rattle.workmap.specs.declared.Side.{Side}
 use Rattle.links.specs.Linking.{links-in, Held}
 use Rattle.links.proofs.Shapes.{couples-pairs}
 
@@ -18,23 +18,26 @@ part-is : (w : List ℕ) (at n : ℕ) (xs : List ℕ) → n ≡ length xs → Ho
 part-is w at n xs e h = ap (λ (k : ℕ). part w at k) e ∙ h
 
 -- the links of what stands in the memory are the links of the ordering that stands there
-pub links-held : (w : List ℕ) (n : Counts) (p : Places) (o : Ordering) (xs : List ℕ) → Held w n p o xs →
+pub links-held : (w : List ℕ) (n : Counts) (p : Side) (o : Ordering) (xs : List ℕ) → Held w n p o xs →
     links-in w n p ≡ links o xs
 unfolding links-in links
 links-held w n p o xs H =
     let vs : List ℕ = map (λ (a : Couple). a .v) (o .pairs) in
     let ws : List ℕ = map (λ (a : Couple). a .w) (o .pairs) in
-    let from : part w (p .v) (n .pairs) ≡ vs =
-    part-is w (p .v) (n .pairs) vs (H .pairs ∙ sym (length-map (o .pairs) (λ (a : Couple). a .v))) (H .v-held)
+    let from : part w (p .pairs .firsts) (n .pairs) ≡ vs =
+    part-is w (p .pairs .firsts) (n .pairs) vs (H .pairs ∙ sym (length-map (o .pairs) (λ (a : Couple). a .v)))
+    (H .v-held)
     in
-    let to : part w (p .w) (n .pairs) ≡ ws =
-    part-is w (p .w) (n .pairs) ws (H .pairs ∙ sym (length-map (o .pairs) (λ (a : Couple). a .w))) (H .w-held)
+    let to : part w (p .pairs .seconds) (n .pairs) ≡ ws =
+    part-is w (p .pairs .seconds) (n .pairs) ws (H .pairs ∙ sym (length-map (o .pairs) (λ (a : Couple). a .w)))
+    (H .w-held)
     in
-    let sources : part w (p .sources) (n .sources) ≡ o .lone-sources =
-    part-is w (p .sources) (n .sources) (o .lone-sources) (H .sources) (H .sources-held)
+    let sources : part w (p .pairs .lone) (n .sources) ≡ o .lone-sources =
+    part-is w (p .pairs .lone) (n .sources) (o .lone-sources) (H .sources) (H .sources-held)
     in
-    let sinks : part w (p .sinks) (n .sinks) ≡ o .lone-sinks =
-    part-is w (p .sinks) (n .sinks) (o .lone-sinks) (H .sinks) (H .sinks-held)
+    let sinks : part w (p .lists .sinks) (n .sinks) ≡ o .lone-sinks =
+    part-is w (p .lists .sinks) (n .sinks) (o .lone-sinks) (H .sinks) (H .sinks-held)
     in
-    let alone : part w (p .alone) (n .alone) ≡ xs = part-is w (p .alone) (n .alone) xs (H .alone) (H .alone-held) in
+    let alone : part w (p .lists .alone) (n .alone) ≡ xs = part-is w (p .lists .alone) (n .alone) xs (H .alone)
+    (H .alone-held) in
     rw (from, to, sources, sinks, alone, couples-pairs (o .pairs))

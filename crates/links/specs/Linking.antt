@@ -1,21 +1,21 @@
 -- What putting the links of an ordering asks and leaves. The ordering's lists stand in work memory, where the counts
--- and the places tell.
+-- and the side tell.
 --   couples vs ws       the pairs of a list of sources and a list of sinks
 --   ordering-in, alone-in    the ordering and the zones alone that stand in the memory
 --   stations-in, links-in    its chain's stations, and its links
 --   Held                an ordering stands in the memory: then its links are the links of what stands there
---   Placed              the lists lie behind the stretch of 2 n elements for the stations, and before the whys
+--   Lists-apart              the lists lie behind the stretch for the stations, and before the whys
 --   Stationed           what putting the stations leaves;  Linkable, Linked   what putting the links asks and leaves
 use mathlib.Core.Path.{_≡_}
 use mathlib.Core.Logic.{_⊎_}
 use mathlib.Core.List.{List, [], _∷_, map}
-use Prim.Native.Nat.{ℕ, zero, suc, _+_, _*_, _-_, _≤_, _<_}
+use Prim.Native.Nat.{ℕ, zero, suc, _+_, _-_, _≤_, _<_}
 use lib.ListN.{length, drop}
 use lib.Seq.{sets}
 use Rattle.rules.specs.Plan.{Couple, Ordering, Link, why-number, stations, links}
 use Rattle.memory.specs.Regions.{part, Holds}
 use Rattle.links.specs.declared.Counts.{Counts}
-use Rattle.links.specs.declared.Places.{Places}
+use Rattle.workmap.specs.declared.Side.{Side}
 
 -- the pairs of a list of sources and a list of sinks
 abbrev pub couples : List ℕ → List ℕ → List Couple
@@ -24,81 +24,86 @@ couples (v ∷ vs) [] = []
 couples (v ∷ vs) (w ∷ ws) = record { v = v; w = w } ∷ couples vs ws
 
 -- the ordering that stands in the memory
-abbrev pub ordering-in : List ℕ → Counts → Places → Ordering
+abbrev pub ordering-in : List ℕ → Counts → Side → Ordering
 ordering-in w n p =
     record {
-      pairs = couples (part w (p .v) (n .pairs)) (part w (p .w) (n .pairs));
-      lone-sources = part w (p .sources) (n .sources);
-      lone-sinks = part w (p .sinks) (n .sinks);
+      pairs = couples (part w (p .pairs .firsts) (n .pairs)) (part w (p .pairs .seconds) (n .pairs));
+      lone-sources = part w (p .pairs .lone) (n .sources);
+      lone-sinks = part w (p .lists .sinks) (n .sinks);
     }
 
 -- the zones alone that stand in the memory
-abbrev pub alone-in : List ℕ → Counts → Places → List ℕ
-alone-in w n p = part w (p .alone) (n .alone)
+abbrev pub alone-in : List ℕ → Counts → Side → List ℕ
+alone-in w n p = part w (p .lists .alone) (n .alone)
 
 -- the stations of the chain of what stands in the memory
-unfoldable pub stations-in : List ℕ → Counts → Places → List ℕ
+unfoldable pub stations-in : List ℕ → Counts → Side → List ℕ
 unfolding stations
 stations-in w n p = stations (ordering-in w n p) (alone-in w n p)
 
 -- the links of what stands in the memory
-unfoldable pub links-in : List ℕ → Counts → Places → List Link
+unfoldable pub links-in : List ℕ → Counts → Side → List Link
 unfolding links
 links-in w n p = links (ordering-in w n p) (alone-in w n p)
 
--- the ordering o and the zones alone xs stand in the memory, as the counts and the places tell
-pub record Held (w : List ℕ) (n : Counts) (p : Places) (o : Ordering) (xs : List ℕ) : Type 0 where
+-- the ordering o and the zones alone xs stand in the memory, as the counts and the side tell
+pub record Held (w : List ℕ) (n : Counts) (p : Side) (o : Ordering) (xs : List ℕ) : Type 0 where
   pub pairs : n .pairs ≡ length (o .pairs)
   pub sources : n .sources ≡ length (o .lone-sources)
   pub sinks : n .sinks ≡ length (o .lone-sinks)
   pub alone : n .alone ≡ length xs
-  pub v-held : Holds w (p .v) (map (λ (a : Couple). a .v) (o .pairs))
-  pub w-held : Holds w (p .w) (map (λ (a : Couple). a .w) (o .pairs))
-  pub sources-held : Holds w (p .sources) (o .lone-sources)
-  pub sinks-held : Holds w (p .sinks) (o .lone-sinks)
-  pub alone-held : Holds w (p .alone) xs
+  pub v-held : Holds w (p .pairs .firsts) (map (λ (a : Couple). a .v) (o .pairs))
+  pub w-held : Holds w (p .pairs .seconds) (map (λ (a : Couple). a .w) (o .pairs))
+  pub sources-held : Holds w (p .pairs .lone) (o .lone-sources)
+  pub sinks-held : Holds w (p .lists .sinks) (o .lone-sinks)
+  pub alone-held : Holds w (p .lists .alone) xs
 
 -- where the last station is found: the first pair's source, or the first zone alone where there is no pair
 abbrev pub first-at : ℕ → ℕ → ℕ → ℕ
 first-at zero v x = x
 first-at (suc k) v x = v
 
+-- where the stretch for the stations ends: it has two elements for every zone
+abbrev pub stations-end : Side → ℕ
+stations-end p = p .links .stations + (p .rows .zones + p .rows .zones)
+
 -- every list lies in the memory, behind the stretch for the stations, and before the whys; the stretch has room for
 -- the stations
-pub record Placed (w : List ℕ) (zones : ℕ) (n : Counts) (p : Places) : Type 0 where
+pub record Lists-apart (w : List ℕ) (n : Counts) (p : Side) : Type 0 where
   pub order : n .sources ≤ n .sinks
-  pub room : 2 + (n .sinks - n .sources) + n .alone ≤ 2 * zones
-  pub v-apart : p .stations + 2 * zones ≤ p .v
-  pub w-apart : p .stations + 2 * zones ≤ p .w
-  pub sources-apart : p .stations + 2 * zones ≤ p .sources
-  pub sinks-apart : p .stations + 2 * zones ≤ p .sinks
-  pub alone-apart : p .stations + 2 * zones ≤ p .alone
-  pub v-fits : p .v + n .pairs < p .why
-  pub w-fits : p .w + n .pairs ≤ p .why
-  pub sources-fit : p .sources + n .sources ≤ p .why
-  pub sinks-fit : p .sinks + n .sinks ≤ p .why
-  pub alone-fit : p .alone + n .alone ≤ p .why
-  pub why-fits : p .why + zones ≤ length w
+  pub room : 2 + (n .sinks - n .sources) + n .alone ≤ p .rows .zones + p .rows .zones
+  pub v-apart : stations-end p ≤ p .pairs .firsts
+  pub w-apart : stations-end p ≤ p .pairs .seconds
+  pub sources-apart : stations-end p ≤ p .pairs .lone
+  pub sinks-apart : stations-end p ≤ p .lists .sinks
+  pub alone-apart : stations-end p ≤ p .lists .alone
+  pub v-fits : p .pairs .firsts + n .pairs < p .links .why
+  pub w-fits : p .pairs .seconds + n .pairs ≤ p .links .why
+  pub sources-fit : p .pairs .lone + n .sources ≤ p .links .why
+  pub sinks-fit : p .lists .sinks + n .sinks ≤ p .links .why
+  pub alone-fit : p .lists .alone + n .alone ≤ p .links .why
+  pub why-fits : p .links .why + p .rows .zones ≤ length w
 
 -- the stations are put, and nothing else is changed
-pub record Stationed (w w' : List ℕ) (n : Counts) (p : Places) (r : ℕ) : Type 0 where
+pub record Stationed (w w' : List ℕ) (n : Counts) (p : Side) (r : ℕ) : Type 0 where
   pub count : r ≡ length (stations-in w n p)
-  pub is : w' ≡ sets w (p .stations) (stations-in w n p)
+  pub is : w' ≡ sets w (p .links .stations) (stations-in w n p)
 
 -- what putting the links asks: starts and ends lie before the stations, one behind the other, and there are no more
 -- links than zones
-pub record Linkable (w : List ℕ) (zones : ℕ) (n : Counts) (p : Places) : Type 0 where
-  pub placed : Placed w zones n p
-  pub few : length (links-in w n p) ≤ zones
-  pub start-before : p .start + zones ≤ p .stations
-  pub end-before : p .end + zones ≤ p .stations
-  pub apart : (p .start + zones ≤ p .end) ⊎ (p .end + zones ≤ p .start)
+pub record Linkable (w : List ℕ) (n : Counts) (p : Side) : Type 0 where
+  pub placed : Lists-apart w n p
+  pub few : length (links-in w n p) ≤ p .rows .zones
+  pub start-before : p .links .from + p .rows .zones ≤ p .links .stations
+  pub end-before : p .links .to + p .rows .zones ≤ p .links .stations
+  pub apart :
+      (p .links .from + p .rows .zones ≤ p .links .to) ⊎ (p .links .to + p .rows .zones ≤ p .links .from)
 
 -- the links are put in their order, and behind the whys the memory is as it was
-pub record Linked (w w' : List ℕ) (zones : ℕ) (n : Counts) (p : Places) (r : ℕ) : Type 0 where
+pub record Links-put (w w' : List ℕ) (n : Counts) (p : Side) (r : ℕ) : Type 0 where
   pub count : r ≡ length (links-in w n p)
-  pub start : Holds w' (p .start) (map (λ (l : Link). l .start) (links-in w n p))
-  pub end : Holds w' (p .end) (map (λ (l : Link). l .end) (links-in w n p))
-  pub why : Holds w' (p .why) (map (λ (l : Link). why-number (l .why)) (links-in w n p))
+  pub start : Holds w' (p .links .from) (map (λ (l : Link). l .start) (links-in w n p))
+  pub end : Holds w' (p .links .to) (map (λ (l : Link). l .end) (links-in w n p))
+  pub why : Holds w' (p .links .why) (map (λ (l : Link). why-number (l .why)) (links-in w n p))
   pub long : length w' ≡ length w
-  pub behind : drop (p .why + zones) w' ≡ drop (p .why + zones) w
+  pub behind : drop (p .links .why + p .rows .zones) w' ≡ drop (p .links .why + p .rows .zones) w

@@ -1,6 +1,7 @@
 -- Copies and fills as stores one behind the other.
 --   sets l i xs    the list l after stores of the elements of xs from index i on
 --   sets-over      stores from index 0 on leave the result, and past it what was there
+--   zeros-cleared  zeros stored from index 0 on clear the front
 --   copied-long    a copy keeps the memory's length
 --   copy-more, copy-front, copy-down, fill-more   one element more: of a copy, of a copy to the front, of a copy to
 --                  lower places of the same memory, of the same number
@@ -12,7 +13,7 @@ use native.Mathlib.Nat.{zero-add}
 use native.Mathlib.Omega.{arith}
 use lib.ListN.{length, getD, set, drop, replicate, length-replicate, replicate-append-replicate}
 use lib.Seq.{sets, sets-eq, length-sets}
-use Rattle.rules.specs.Lists.{over}
+use Rattle.rules.specs.Lists.{over, cleared}
 use Rattle.theory.proofs.Ground.Storing.{sets-append}
 use Rattle.memory.specs.Regions.{part}
 use Rattle.memory.proofs.Regions.{part-long, part-more}
@@ -23,6 +24,12 @@ use Rattle.memory.specs.Storing.{Copied}
 pub sets-over : (xs l : List ℕ) → length xs ≤ length l → sets l 0 xs ≡ over xs l
 sets-over xs l fits =
     sets-eq xs l 0 (omega arith) ∙ ap (λ (k : ℕ). xs ++ drop k l) (zero-add (length xs))
+
+-- zeros stored from index 0 on clear the front
+pub zeros-cleared : (k : ℕ) (l : List ℕ) → k ≤ length l → sets l 0 (replicate k 0) ≡ cleared k l
+zeros-cleared k l fits =
+    sets-over (replicate k 0) l (omega (arith, length-replicate {A = ℕ} k 0))
+    ∙ ap (λ (n : ℕ). replicate k 0 ++ drop n l) (length-replicate {A = ℕ} k 0)
 
 -- a copy keeps the memory's length
 pub copied-long : {w w' : List ℕ} {from n to : ℕ} → Copied w w' from n to → length w' ≡ length w

@@ -3,3 +3,4 @@ pub mod Regions
 pub mod Stores
 pub mod Places
 pub mod Copies
+pub mod Cleared

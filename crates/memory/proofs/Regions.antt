@@ -3,13 +3,11 @@
 --                            and its rest
 --   holds-at, holds-of       element by element, from the list to the memory and back
 --   holds-part               what stands there is held
---   holds-same               two lists as long that stand in one place are equal
 --   holds-none, holds-snoc   no list at all, and one element more by a store behind the list
---   holds-append             two lists, one behind the other; holds-left, holds-right take them apart again
---   holds-take, holds-drop   a front and a rest of the list
+--   holds-append             two lists, one behind the other
 --   at-below, at-kept        the same up to a place, or from a place on: each element there is the same
---   part-store, part-below, part-kept, part-between   what changes elsewhere leaves a part as it is
---   holds-store, holds-below, holds-kept, holds-between, holds-apart   ... and a list where it is
+--   part-store, part-below, part-kept   what changes elsewhere leaves a part as it is
+--   holds-store, holds-kept, holds-apart   ... and a list where it is
 -- The idea: each law is one of `take`, `drop` and `set`. Assumes nothing.
 use mathlib.Core.Path.{_≡_, refl, sym, ap, _∙_}
 use mathlib.Core.Logic.{_⊎_, ⊎-elim}
@@ -18,8 +16,8 @@ use Prim.Native.Nat.{ℕ, zero, suc, _+_, _-_, _≤_, _<_}
 use native.Mathlib.Nat.{zero-add, suc-add}
 use native.Mathlib.Numerals.{add-one}
 use native.Mathlib.Omega.{arith}
-use lib.ListN.{length, getD, set, take, drop, length-take, length-drop, length-append, take-append-drop}
-use lib.Seq.{length-take-le, take-suc, take-nil, take-append-seam, drop-append-seam, drop-at, ext-getD, slice}
+use lib.ListN.{length, getD, set, take, drop, length-take, length-drop, length-append}
+use lib.Seq.{length-take-le, take-suc, take-nil, ext-getD, slice}
 use lib.Seq.{getD-take, getD-drop, drop-set-lt, drop-set-add, take-set-le, take-suc-set, take-take, take-add}
 use lib.Seq.{drop-drop}
 use Rattle.memory.specs.Regions.{part, Holds}
@@ -76,11 +74,6 @@ pub holds-part : (w : List ℕ) (at n : ℕ) → at + n ≤ length w → Holds w
 holds-part w at n fits =
     ap (λ (k : ℕ). part w at k) (part-long w at n (omega arith))
 
--- two lists as long that stand in one place are equal
-pub holds-same : (w : List ℕ) (at : ℕ) (xs ys : List ℕ) → length xs ≡ length ys → Holds w at xs → Holds w at ys →
-    xs ≡ ys
-holds-same w at xs ys e h k = sym h ∙ ap (λ (n : ℕ). part w at n) e ∙ k
-
 -- no list at all stands everywhere
 pub holds-none : (w : List ℕ) (at : ℕ) → Holds w at []
 holds-none w at = refl
@@ -104,38 +97,6 @@ holds-append w at xs ys h k =
     ∙ ap (λ (l : List ℕ). take (length xs) (drop at w) ++ take (length ys) l) (drop-drop (length xs) at w)
     ∙ (cc (h, k))
 
--- the first of two lists stands where both do
-pub holds-left : (w : List ℕ) (at : ℕ) (xs ys : List ℕ) → Holds w at (xs ++ ys) → Holds w at xs
-holds-left w at xs ys h =
-    sym (take-take (length xs) (length (xs ++ ys)) (drop at w) (simp length-append (omega arith)))
-    ∙ ap (λ (l : List ℕ). take (length xs) l) h
-    ∙ take-append-seam xs ys
-
--- the second of two lists stands behind the first
-pub holds-right : (w : List ℕ) (at : ℕ) (xs ys : List ℕ) → Holds w at (xs ++ ys) → Holds w (at + length xs) ys
-holds-right w at xs ys h =
-    let front : List ℕ = take (length xs) (drop at w) in
-    let rest : List ℕ = take (length ys) (drop (length xs) (drop at w)) in
-    let whole : front ++ rest ≡ xs ++ ys =
-    sym (take-add (length xs) (length ys) (drop at w)) ∙ ap (λ (n : ℕ). part w at n) (sym (length-append xs ys)) ∙ h
-    in
-    ap (λ (l : List ℕ). take (length ys) l) (sym (drop-drop (length xs) at w))
-    ∙ sym (drop-at front rest (length xs) (ap length (holds-left w at xs ys h)))
-    ∙ ap (λ (l : List ℕ). drop (length xs) l) whole
-    ∙ drop-append-seam xs ys
-
--- a front of the list stands where the list does
-pub holds-take : (w : List ℕ) (at : ℕ) (xs : List ℕ) (k : ℕ) → Holds w at xs → Holds w at (take k xs)
-holds-take w at xs k h =
-    holds-left w at (take k xs) (drop k xs) (rw (take-append-drop k xs) h)
-
--- the list without its first k stands k places further
-pub holds-drop : (w : List ℕ) (at : ℕ) (xs : List ℕ) (k : ℕ) → k ≤ length xs → Holds w at xs →
-    Holds w (at + k) (drop k xs)
-holds-drop w at xs k low h =
-    rw (length-take-le k xs low) at
-    (holds-right w at (take k xs) (drop k xs) (rw (take-append-drop k xs) h))
-
 -- the same up to the place n: each part that ends there or before is the same
 pub part-below : (w w' : List ℕ) (n at m : ℕ) → at + m ≤ n → take n w' ≡ take n w → part w' at m ≡ part w at m
 part-below w w' n at m high same =
@@ -157,15 +118,6 @@ part-kept w w' n at m low same =
     ap (λ (i : ℕ). take m (drop i l)) (sym e) ∙ ap (λ (r : List ℕ). take m r) (sym (drop-drop (at - n) n l))
     in
     cut w' ∙ ap (λ (r : List ℕ). take m (drop (at - n) r)) same ∙ sym (cut w)
-
--- the same from the place f up to the place t: each part between them is the same
-pub part-between : (w w' : List ℕ) (f t at m : ℕ) → f ≤ at → at + m ≤ t → slice f t w' ≡ slice f t w →
-    part w' at m ≡ part w at m
-part-between w w' f t at m low high same =
-    let front : (l : List ℕ) → part (take t l) at m ≡ part l at m =
-    λ (l : List ℕ). part-below l (take t l) t at m high (take-take t t l (omega arith))
-    in
-    sym (front w') ∙ part-kept (take t w) (take t w') f at m low same ∙ front w
 
 -- the same up to the place n: each element before it is the same
 pub at-below : (w w' : List ℕ) (n i : ℕ) → i < n → take n w' ≡ take n w → getD w' i 0 ≡ getD w i 0
@@ -199,17 +151,7 @@ holds-apart w w' at xs long same h =
     holds-of w' at xs (omega (arith, holds-fits w at xs h))
     (λ i low. same (at + i) (omega arith) (omega arith) ∙ holds-at w at xs h i low)
 
--- a memory that is the same up to the place n holds each list that ends there or before
-pub holds-below : (w w' : List ℕ) (n at : ℕ) (xs : List ℕ) → at + length xs ≤ n → take n w' ≡ take n w →
-    Holds w at xs → Holds w' at xs
-holds-below w w' n at xs high same h = part-below w w' n at (length xs) high same ∙ h
-
 -- a memory that is the same from the place n on holds each list that starts there or behind
 pub holds-kept : (w w' : List ℕ) (n at : ℕ) (xs : List ℕ) → n ≤ at → drop n w' ≡ drop n w → Holds w at xs →
     Holds w' at xs
 holds-kept w w' n at xs low same h = part-kept w w' n at (length xs) low same ∙ h
-
--- a memory that is the same from the place f up to the place t holds each list between them
-pub holds-between : (w w' : List ℕ) (f t at : ℕ) (xs : List ℕ) → f ≤ at → at + length xs ≤ t →
-    slice f t w' ≡ slice f t w → Holds w at xs → Holds w' at xs
-holds-between w w' f t at xs low high same h = part-between w w' f t at (length xs) low high same ∙ h

@@ -1,5 +1,5 @@
-// Lent work memory: an element as an index, and stretches that are cleared, filled, and copied to lower places or out to a
-// lent list.
+// Lent work memory: an element as an index, and stretches that are cleared, filled, and copied to lower places or out
+// to a lent list.
 ghost use mathlib.Core.Path.{_≡_};
 ghost use Prim.Native.Nat.{_+_, _≤_};
 ghost use lib.ListN.{length, replicate};
@@ -15,18 +15,6 @@ pub fn wide(x: u16) -> usize
     x as usize
 }
 
-// Zeros in the first `asked` elements; past them the work memory is as it came.
-pub fn clear(work: &mut [u16], asked: usize)
-    requires { ⌜ asked ≤ length (now work) ⌝ }
-    ensures { λ r. ⌜ now (work .exit) ≡ cleared asked (now (work .entry)) ⌝ }
-{
-    let mut at = 0;
-    while at < asked {
-        work[at] = 0;
-        at += 1;
-    }
-}
-
 // Stores a number n times, from the place `at` on.
 pub fn fill(work: &mut [u16], at: usize, n: usize, x: u16)
     requires { ⌜ at + n ≤ length (now work) ⌝ }
@@ -37,6 +25,14 @@ pub fn fill(work: &mut [u16], at: usize, n: usize, x: u16)
         work[at + i] = x;
         i += 1;
     }
+}
+
+// Zeros in the first `asked` elements; past them the work memory is as it came.
+pub fn clear(work: &mut [u16], asked: usize)
+    requires { ⌜ asked ≤ length (now work) ⌝ }
+    ensures { λ r. ⌜ now (work .exit) ≡ cleared asked (now (work .entry)) ⌝ }
+{
+    fill(work, 0, asked, 0);
 }
 
 // Copies n elements of the work memory, from the place `from` on, to lower places, from `to` on.

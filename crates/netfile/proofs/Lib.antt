@@ -6,4 +6,3 @@ pub mod Partway
 pub mod Wholes
 pub mod Bytes
 pub mod Writes
-pub mod Outcomes

@@ -8,12 +8,12 @@ use native.Mathlib.Omega.{arith}
 use mathlib.Core.Path.{_≡_, refl, ap, _∙_}
 use mathlib.Core.List.{List, [], _∷_, _++_, map, map-append}
 use lib.ListN.{length, set, length-append, length-map}
-use Rattle.rules.specs.Answers.{Refusal}
+use Rattle.rules.specs.declared.Trouble.{Trouble}
 use Rattle.rules.specs.Lists.{over}
 use Rattle.rules.specs.Network.{Arc, _⟶_}
 use Rattle.rules.specs.Number.{got, bad}
 use Rattle.rules.specs.File.{arc-at, arcs-at}
-use Rattle.netfile.specs.Readings.{Accepted, Stored}
+use Rattle.netfile.specs.Readings.{Accepted, Arcs-stored}
 use Rattle.netfile.proofs.Overs.{over-more}
 use Rattle.netfile.proofs.Turns.{ahead, ahead-none, turn-got, turn-bad, turns-over}
 
@@ -54,7 +54,7 @@ module _ (s : List ℕ) (n m from : ℕ) (ts₀ hs₀ : List ℕ) where
         }
 
     -- No arc of an accepted file is refused.
-    pub partway-never : (t : Refusal) → k < m → Accepted (arcs-at s n m from) → arc-at s n at ≡ bad t → ⊥
+    pub partway-never : (t : Trouble) → k < m → Accepted (arcs-at s n m from) → arc-at s n at ≡ bad t → ⊥
     partway-never t l w q =
         let e : arcs-at s n m from ≡ bad t = p .found ∙ turn-bad s n m k at (p .arcs) t l q in
         let e' : arcs-at s n m from ≡ got (w .0) (w .1) = w .2 in
@@ -62,7 +62,7 @@ module _ (s : List ℕ) (n m from : ℕ) (ts₀ hs₀ : List ℕ) where
         omega arith
 
     -- After the last turn every arc is in the lists.
-    pub partway-end : m - k ≡ 0 → Stored (arcs-at s n m from) ts₀ hs₀ ts hs
+    pub partway-end : m - k ≡ 0 → Arcs-stored (arcs-at s n m from) ts₀ hs₀ ts hs
     partway-end z =
         let all : arcs-at s n m from ≡ got (p .arcs) at = p .found ∙ turns-over s n m k at (p .arcs) z in
         record { tails = λ es end e. rw (same all e) at (p .tails); heads = λ es end e. rw (same all e) at (p .heads) }

@@ -5,12 +5,12 @@
 use Prim.Native.Nat.{ℕ}
 use mathlib.Core.Path.{_≡_, refl}
 use mathlib.Core.Bool.{Bool, true, false}
-use Rattle.rules.specs.Answers.{Refusal}
+use Rattle.rules.specs.declared.Trouble.{Trouble}
 use Rattle.rules.specs.Number.{Reading, got, bad, then, unless}
 
 module _ {A B : Type 0} where
   -- What is read on after a test is read on after it.
-  pub unless-then : (b : Bool) (t : Refusal) (r : Reading A) (f : A → ℕ → Reading B)
+  pub unless-then : (b : Bool) (t : Trouble) (r : Reading A) (f : A → ℕ → Reading B)
       → then (unless b t r) f ≡ unless b t (then r f)
   unless-then true t r f = refl
   unless-then false t r f = refl

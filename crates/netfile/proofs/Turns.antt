@@ -11,7 +11,7 @@ use mathlib.Core.Path.{_≡_, refl}
 use mathlib.Core.List.{List, [], _∷_, _++_, append-assoc, append-nil}
 use lib.Dec.{leb, eqb}
 use borrow.Author.Tests.{leb-false}
-use Rattle.rules.specs.Answers.{Refusal}
+use Rattle.rules.specs.declared.Trouble.{Trouble}
 use Rattle.rules.specs.Network.{Arc}
 use Rattle.rules.specs.Number.{Reading, got, bad, then, number-at}
 use Rattle.rules.specs.File.{zone-at, arc-at, arcs-at}
@@ -44,7 +44,7 @@ module _ (s : List ℕ) (n m k at : ℕ) where
   turn-got es e next h q = rw (left-suc m k h, q) (ahead-cons es e (arcs-at s n (m - (k + 1)) next))
 
   -- An arc that is refused is the refusal of the whole.
-  pub turn-bad : (es : List Arc) (t : Refusal) → k < m → arc-at s n at ≡ bad t
+  pub turn-bad : (es : List Arc) (t : Trouble) → k < m → arc-at s n at ≡ bad t
       → ahead es (arcs-at s n (m - k) at) ≡ bad t
   unfolding arcs-at
   turn-bad es t h q = rw (left-suc m k h, q)

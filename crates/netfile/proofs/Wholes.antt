@@ -13,17 +13,18 @@ use mathlib.Core.Bool.{_||_}
 use lib.Dec.{ltb, eqb}
 use lib.ListN.{length}
 use borrow.Author.Tests.{lt-ltb, le-ltb, ltb-false}
+use Rattle.rules.specs.declared.TroubleKind.the-variants.{Zones, Arcs, Extra, Room}
+use Rattle.rules.specs.Answers.{refusal, read-told}
 use Rattle.rules.specs.Lists.{over}
 use Rattle.rules.specs.Network.{Arc}
-use Rattle.rules.specs.Answers.{Refusal, trouble-refusal}
-use Rattle.rules.specs.Number.{Reading, got, bad, then, refusal, unless, number-at}
+use Rattle.rules.specs.Number.{Reading, got, bad, then, unless, number-at}
 use Rattle.rules.specs.File.{Given, zones-bad, arcs-bad, arc-at, arcs-at, body-at, counted-at, file-at}
-use Rattle.rules.specs.Calls.{read-finds, read-says, read-leaves-tails, read-leaves-heads}
 use Rattle.rules.specs.declared.Trouble.{Trouble}
 use Rattle.rules.specs.declared.ReadAnswer.{ReadAnswer}
 use Rattle.theory.proofs.Ground.Bools.{or-false}
 use Rattle.netfile.specs.Readings.{zones-at, count-at}
-use Rattle.netfile.specs.Promises.{Put, Read-promise}
+use Rattle.rules.specs.Promises.{Read-promise}
+use Rattle.netfile.specs.Promises.{Put}
 use Rattle.theory.proofs.Files.Readings.{then-got, unless-got}
 use Rattle.netfile.proofs.Thens.{unless-then, then-agree}
 
@@ -40,13 +41,13 @@ module _ (s : List ℕ) where
 
   module _ (n m at : ℕ) where
     -- Arcs that are refused: the file is refused.
-    pub body-bad : (t : Refusal) → arcs-at s n m at ≡ bad t → body-at s n m at ≡ bad t
+    pub body-bad : (t : Trouble) → arcs-at s n m at ≡ bad t → body-at s n m at ≡ bad t
     unfolding body-at
     body-bad t e = rw e
 
     module _ (es : List Arc) (end : ℕ) (e : arcs-at s n m at ≡ got es end) where
       -- Bytes after the last arc are refused.
-      pub body-extra : end < length s → body-at s n m at ≡ bad (refusal 8 end)
+      pub body-extra : end < length s → body-at s n m at ≡ bad (refusal Extra end)
       unfolding body-at
       body-extra h = rw (e, lt-ltb end (length s) h)
 
@@ -81,19 +82,19 @@ module _ (s : List ℕ) where
     unfolding zones-at file-at
     file-parts =
         then-agree (number-at s 0) _ _ _ λ n next.
-        unless-then (zones-bad n) (refusal 4 0) (got n next) (counted-at s a b)
+        unless-then (zones-bad n) (refusal Zones 0) (got n next) (counted-at s a b)
 
     -- What follows the zone count is the arc count and the arcs.
     counted-parts : (n at : ℕ) → then (count-at s a b at) (body-at s n) ≡ counted-at s a b n at
     unfolding count-at counted-at
     counted-parts n at =
         then-agree (number-at s at) _ _ _ λ m next.
-        unless-then (arcs-bad m) (refusal 5 at) _ (body-at s n)
-        ∙ ap (λ (r : Reading Given). unless (arcs-bad m) (refusal 5 at) r)
-        (unless-then (ltb a m || ltb b m) (refusal 9 at) (got m next) (body-at s n))
+        unless-then (arcs-bad m) (refusal Arcs at) _ (body-at s n)
+        ∙ ap (λ (r : Reading Given). unless (arcs-bad m) (refusal Arcs at) r)
+        (unless-then (ltb a m || ltb b m) (refusal Room at) (got m next) (body-at s n))
 
     -- A zone count that is refused: the file is refused.
-    pub file-bad : (t : Refusal) → zones-at s ≡ bad t → file-at s a b ≡ bad t
+    pub file-bad : (t : Trouble) → zones-at s ≡ bad t → file-at s a b ≡ bad t
     file-bad t e = rw (← file-parts, e)
 
     -- A zone count that is found: the file is what follows.
@@ -101,7 +102,7 @@ module _ (s : List ℕ) where
     file-got n next e = rw (← file-parts, e)
 
     -- An arc count that is refused: the file is refused.
-    pub counted-bad : (n at : ℕ) (t : Refusal) → count-at s a b at ≡ bad t → counted-at s a b n at ≡ bad t
+    pub counted-bad : (n at : ℕ) (t : Trouble) → count-at s a b at ≡ bad t → counted-at s a b n at ≡ bad t
     counted-bad n at t e = rw (← counted-parts n at, e)
 
     -- An arc count that is found: what follows is the arcs.
@@ -109,7 +110,7 @@ module _ (s : List ℕ) where
     counted-got n at m next e = rw (← counted-parts n at, e)
 
 -- A refusal leaves the lists as they came.
-pub put-bad : (r : Reading Given) (ts hs : List ℕ) (t : Trouble) → r ≡ bad (trouble-refusal t)
+pub put-bad : (r : Reading Given) (ts hs : List ℕ) (t : Trouble) → r ≡ bad t
     → Put r ts hs (ReadAnswer.Refused t) ts hs
 put-bad r ts hs t e = record { says = rw e; tails = rw e; heads = rw e }
 
@@ -123,6 +124,5 @@ put-got r ts hs ts' hs' n m es end e l t h =
 
 -- The answer to the reading of a file is what reading promises.
 pub promise : (file ts hs : List ℕ) (a : ReadAnswer) (ts' hs' : List ℕ)
-    → Put (file-at file (length ts) (length hs)) ts hs a ts' hs' → Read-promise file ts hs a ts' hs'
-unfolding read-finds read-says read-leaves-tails read-leaves-heads
+    → Put (file-at file (length ts) (length hs)) ts hs a ts' hs' → Read-promise file ts hs ts' hs' (read-told a)
 promise file ts hs a ts' hs' p = record { says = p .says; tails = p .tails; heads = p .heads }

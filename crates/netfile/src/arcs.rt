@@ -1,12 +1,12 @@
 // The arcs of a network file: one arc, and the pass over all of them that only tests.
 ghost use mathlib.Core.Path.{_≡_};
 ghost use Rattle.rules.specs.File.{zone-at, arc-at, arcs-at};
-ghost use Rattle.numbers.specs.Readings.{number-reading};
+ghost use Rattle.filenumbers.specs.Readings.{number-reading};
 ghost use Rattle.netfile.specs.Readings.{arc-reading, Scanned};
-use numbers::Cursor;
-use numbers::NumberRead;
-use rules::Kind;
+use filenumbers::Cursor;
+use filenumbers::NumberRead;
 use rules::Trouble;
+use rules::TroubleKind;
 
 // What reading an arc finds: its tail, its head and the next cursor, or the refusal.
 pub enum ArcRead {
@@ -36,7 +36,7 @@ fn zone(s: &[u8], c: Cursor, zones: usize) -> NumberRead
         NumberRead::Number(z, next) => {
             if zones <= z {
                 return NumberRead::Refused(Trouble {
-                    kind: Kind::Range,
+                    kind: TroubleKind::Range,
                     place,
                 });
             }
@@ -62,7 +62,7 @@ pub fn arc(s: &[u8], c: Cursor, zones: usize) -> ArcRead
                 NumberRead::Number(head, next) => {
                     if tail == head {
                         return ArcRead::Refused(Trouble {
-                            kind: Kind::SelfArc,
+                            kind: TroubleKind::SelfArc,
                             place,
                         });
                     }

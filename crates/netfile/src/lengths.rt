@@ -4,7 +4,7 @@ ghost use Prim.Native.Nat.{_≤_};
 ghost use lib.ListN.{length};
 ghost use Rattle.rules.specs.File.{arcs-bytes};
 ghost use Rattle.rules.specs.Calls.{arcs-of};
-use numbers::number_length;
+use filenumbers::number_length;
 
 // How many bytes the arcs are written as.
 pub fn arcs_length(tails: &[u16], heads: &[u16]) -> usize

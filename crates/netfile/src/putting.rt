@@ -6,7 +6,7 @@ ghost use lib.Seq.{sets};
 ghost use Rattle.rules.specs.Lists.{over};
 ghost use Rattle.rules.specs.File.{arcs-bytes};
 ghost use Rattle.rules.specs.Calls.{arcs-of, written};
-use numbers::put_number;
+use filenumbers::put_number;
 
 // Puts the arcs in, one after the other, from a place on.
 fn put_arcs(file: &mut [u8], from: usize, tails: &[u16], heads: &[u16])

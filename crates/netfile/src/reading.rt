@@ -2,18 +2,20 @@
 ghost use mathlib.Core.Path.{_≡_};
 ghost use Prim.Native.Nat.{_≤_};
 ghost use lib.ListN.{length};
+ghost use Rattle.rules.specs.Answers.{read-told};
 ghost use Rattle.rules.specs.File.{body-at};
-ghost use Rattle.numbers.specs.Readings.{number-reading};
+ghost use Rattle.rules.specs.Promises.{Read-promise};
+ghost use Rattle.filenumbers.specs.Readings.{number-reading};
 ghost use Rattle.netfile.specs.Readings.{zones-at, count-at};
-ghost use Rattle.netfile.specs.Promises.{Put, Read-promise};
+ghost use Rattle.netfile.specs.Promises.{Put};
 use super::arcs::ScanRead;
 use super::arcs::scan;
 use super::storing::store;
-use numbers::Cursor;
-use numbers::NumberRead;
-use rules::Kind;
+use filenumbers::Cursor;
+use filenumbers::NumberRead;
 use rules::ReadAnswer;
 use rules::Trouble;
+use rules::TroubleKind;
 
 // The zone count, which stands first.
 fn zone_count(s: &[u8]) -> NumberRead
@@ -27,13 +29,13 @@ fn zone_count(s: &[u8]) -> NumberRead
         NumberRead::Number(n, next) => {
             if n == 0 {
                 return NumberRead::Refused(Trouble {
-                    kind: Kind::Zones,
+                    kind: TroubleKind::Zones,
                     place: 0,
                 });
             }
             if 1024 < n {
                 return NumberRead::Refused(Trouble {
-                    kind: Kind::Zones,
+                    kind: TroubleKind::Zones,
                     place: 0,
                 });
             }
@@ -54,19 +56,19 @@ fn arc_count(s: &[u8], c: Cursor, tails: usize, heads: usize) -> NumberRead
         NumberRead::Number(m, next) => {
             if 4096 < m {
                 return NumberRead::Refused(Trouble {
-                    kind: Kind::Arcs,
+                    kind: TroubleKind::Arcs,
                     place,
                 });
             }
             if tails < m {
                 return NumberRead::Refused(Trouble {
-                    kind: Kind::Room,
+                    kind: TroubleKind::Room,
                     place,
                 });
             }
             if heads < m {
                 return NumberRead::Refused(Trouble {
-                    kind: Kind::Room,
+                    kind: TroubleKind::Room,
                     place,
                 });
             }
@@ -97,7 +99,7 @@ fn body(
             let place = end.at;
             if place < file.len() {
                 return ReadAnswer::Refused(Trouble {
-                    kind: Kind::Extra,
+                    kind: TroubleKind::Extra,
                     place,
                 });
             }
@@ -109,8 +111,8 @@ fn body(
 
 // Reading a network file into two lent lists: the two counts, or the first trouble from left to right.
 pub fn read(file: &[u8], tails: &mut [u16], heads: &mut [u16]) -> ReadAnswer
-    ensures { λ r. ⌜ Read-promise (now (file .entry))
-        (now (tails .entry)) (now (heads .entry)) r (now (tails .exit)) (now (heads .exit)) ⌝ }
+    ensures { λ r. ⌜ Read-promise (now (file .entry)) (now (tails .entry)) (now (heads .entry))
+        (now (tails .exit)) (now (heads .exit)) (read-told r) ⌝ }
 {
     match zone_count(file) {
         NumberRead::Refused(t) => {

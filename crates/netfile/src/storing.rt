@@ -2,10 +2,10 @@
 ghost use Prim.Native.Nat.{_≤_};
 ghost use lib.ListN.{length};
 ghost use Rattle.rules.specs.File.{arcs-at};
-ghost use Rattle.netfile.specs.Readings.{Accepted, Stored};
+ghost use Rattle.netfile.specs.Readings.{Accepted, Arcs-stored};
 use super::arcs::ArcRead;
 use super::arcs::arc;
-use numbers::Cursor;
+use filenumbers::Cursor;
 
 // Puts the tail and the head of each arc into the two lists.
 pub fn store(
@@ -19,7 +19,7 @@ pub fn store(
     requires { ⌜ zones ≤ 1024 ⌝ }
     requires { ⌜ (arcs ≤ length (now tails)) × (arcs ≤ length (now heads)) ⌝ }
     requires { ⌜ Accepted (arcs-at (now s) zones arcs (from .at)) ⌝ }
-    ensures { λ _. ⌜ Stored (arcs-at (now (s .entry)) zones arcs (from .at))
+    ensures { λ _. ⌜ Arcs-stored (arcs-at (now (s .entry)) zones arcs (from .at))
         (now (tails .entry)) (now (heads .entry)) (now (tails .exit)) (now (heads .exit)) ⌝ }
 {
     let mut c = from;

@@ -5,15 +5,8 @@ mod reads;
 mod writes;
 
 fn main() {
-    reads::accepted();
-    reads::first_number();
-    reads::middle_number();
-    reads::last_number();
-    reads::after_the_arcs();
-    reads::room();
-    writes::written();
-    writes::refusals();
-    writes::room();
+    reads::rows();
+    writes::rows();
     writes::too_many(&mut [0; 4097], &mut [0; 4097]);
     writes::largest(&mut [0; 4096], &mut [0; 4096]);
 }

@@ -1,63 +1,98 @@
-// The runs of `write`.
-ghost use Prim.Native.Nat.{_≤_};
+// The runs of `write`: a table of small networks, and the largest files.
+ghost use Prim.Native.Nat.{_≤_, _<_};
 use super::reads;
+use printing::least;
 use rules::WriteAnswer;
+
+// What each row shows: networks that are written; each refusal of the network, at the first, a middle and the last arc,
+// and two troubles at once; and a list that is exact, and one short.
+const LABELS: [[u8; 32]; 17] = [
+    *b"write A.........................",
+    *b"write one zone..................",
+    *b"write 1024 zones................",
+    *b"write pair......................",
+    *b"write no zones..................",
+    *b"write 1025 zones................",
+    *b"write first tail out of range...",
+    *b"write middle head out of range..",
+    *b"write last head out of range....",
+    *b"write first arc to itself.......",
+    *b"write last arc to itself........",
+    *b"write pair before zones.........",
+    *b"write range before self.........",
+    *b"write self before room..........",
+    *b"write room exact................",
+    *b"write one byte short............",
+    *b"write no room...................",
+];
+
+// Each row's network: its zones, the length of the list that is lent, how many tails and heads there are, and those.
+const NETWORKS: [[u16; 14]; 17] = [
+    [6, 12, 5, 5, 0, 2, 0, 1, 4, 2, 3, 4, 4, 5],
+    [1, 12, 0, 0, 0, 0, 0, 0, 0, 0, 0, 0, 0, 0],
+    [1024, 12, 2, 2, 127, 128, 0, 0, 0, 1023, 0, 0, 0, 0],
+    [3, 12, 2, 1, 0, 1, 0, 0, 0, 1, 0, 0, 0, 0],
+    [0, 12, 0, 0, 0, 0, 0, 0, 0, 0, 0, 0, 0, 0],
+    [1025, 12, 0, 0, 0, 0, 0, 0, 0, 0, 0, 0, 0, 0],
+    [3, 12, 3, 3, 3, 1, 2, 0, 0, 1, 2, 0, 0, 0],
+    [3, 12, 3, 3, 0, 1, 2, 0, 0, 1, 3, 0, 0, 0],
+    [3, 12, 3, 3, 0, 1, 2, 0, 0, 1, 2, 3, 0, 0],
+    [3, 12, 3, 3, 1, 1, 2, 0, 0, 1, 2, 0, 0, 0],
+    [3, 12, 3, 3, 0, 1, 2, 0, 0, 1, 2, 2, 0, 0],
+    [0, 12, 1, 0, 0, 0, 0, 0, 0, 0, 0, 0, 0, 0],
+    [3, 12, 1, 1, 3, 0, 0, 0, 0, 3, 0, 0, 0, 0],
+    [3, 0, 2, 2, 0, 1, 0, 0, 0, 1, 1, 0, 0, 0],
+    [3, 6, 2, 2, 0, 1, 0, 0, 0, 1, 2, 0, 0, 0],
+    [3, 5, 2, 2, 0, 1, 0, 0, 0, 1, 2, 0, 0, 0],
+    [1, 0, 0, 0, 0, 0, 0, 0, 0, 0, 0, 0, 0, 0],
+];
 
 // What writing answers: number, place and length.
 fn answer(label: &[u8], zones: usize, tails: &[u16], heads: &[u16], file: &mut [u8]) {
-    io::write_all(1, label);
+    printing::label(label);
     match netfile::write(zones, tails, heads, file) {
         WriteAnswer::Done { length } => {
             io::write_all(1, b" 0 0");
-            show::number(length);
+            printing::number(length);
         }
         WriteAnswer::Refused(t) => {
-            show::trouble(t);
+            printing::trouble(t);
             io::write_all(1, b" 0");
         }
     }
 }
 
 // Writes a network into a list of bytes, and prints a line.
-fn run(label: &[u8], zones: usize, tails: &[u16], heads: &[u16], file: &mut [u8]) {
+fn line(label: &[u8], zones: usize, tails: &[u16], heads: &[u16], file: &mut [u8]) {
     answer(label, zones, tails, heads, file);
-    show::bytes(file);
+    printing::bytes(file);
     io::write_all(1, b"\n");
 }
 
-// The same, with a list of twelve bytes that are 7 before.
-fn twelve(label: &[u8], zones: usize, tails: &[u16], heads: &[u16]) {
+// A row, with a list of bytes that are 7 before.
+fn row(label: [u8; 32], given: [u16; 14]) {
+    let zones = given[0] as usize;
+    let room = least(given[1] as usize, 12);
+    let a = least(given[2] as usize, 5);
+    let b = least(given[3] as usize, 5);
     let mut file = [7u8; 12];
-    run(label, zones, tails, heads, &mut file);
+    let all = &given[..];
+    line(
+        &label,
+        zones,
+        &all[4..4 + a],
+        &all[9..9 + b],
+        &mut file[0..room],
+    );
 }
 
-// Networks that are written.
-pub fn written() {
-    twelve(b"write A", 6, &[0, 2, 0, 1, 4], &[2, 3, 4, 4, 5]);
-    twelve(b"write one zone", 1, &[], &[]);
-    twelve(b"write 1024 zones", 1024, &[127, 128], &[1023, 0]);
-}
-
-// Each refusal of the network, at the first, a middle and the last arc, and two troubles at once.
-pub fn refusals() {
-    twelve(b"write pair", 3, &[0, 1], &[1]);
-    twelve(b"write no zones", 0, &[], &[]);
-    twelve(b"write 1025 zones", 1025, &[], &[]);
-    twelve(b"write first tail out of range", 3, &[3, 1, 2], &[1, 2, 0]);
-    twelve(b"write middle head out of range", 3, &[0, 1, 2], &[1, 3, 0]);
-    twelve(b"write last head out of range", 3, &[0, 1, 2], &[1, 2, 3]);
-    twelve(b"write first arc to itself", 3, &[1, 1, 2], &[1, 2, 0]);
-    twelve(b"write last arc to itself", 3, &[0, 1, 2], &[1, 2, 2]);
-    twelve(b"write pair before zones", 0, &[0], &[]);
-    twelve(b"write range before self", 3, &[3], &[3]);
-    run(b"write self before room", 3, &[0, 1], &[1, 1], &mut []);
-}
-
-// A list that is exact, and one short.
-pub fn room() {
-    run(b"write room exact", 3, &[0, 1], &[1, 2], &mut [7; 6]);
-    run(b"write one byte short", 3, &[0, 1], &[1, 2], &mut [7; 5]);
-    run(b"write no room", 1, &[], &[], &mut []);
+// All rows.
+pub fn rows() {
+    let mut i = 0;
+    while i < 17 {
+        row(LABELS[i], NETWORKS[i]);
+        i += 1;
+    }
 }
 
 // The elements are i + by for i below 512, over and over.
@@ -92,8 +127,8 @@ fn back(label: &[u8], file: &[u8], tails: &[u16], heads: &[u16]) {
     let mut read_tails = [7u16; 4096];
     let mut read_heads = [7u16; 4096];
     reads::answer(label, file, &mut read_tails, &mut read_heads);
-    show::number(apart(tails, &read_tails));
-    show::number(apart(heads, &read_heads));
+    printing::number(apart(tails, &read_tails));
+    printing::number(apart(heads, &read_heads));
     io::write_all(1, b"\n");
 }
 

@@ -2,4 +2,3 @@
 pub mod Memory
 pub mod Truth
 pub mod Answering
-pub mod Outcomes

@@ -5,7 +5,7 @@ use mathlib.Core.Path.{_≡_}
 use mathlib.Core.List.{List}
 use mathlib.Core.Bool.{Bool, true}
 use Prim.Native.Nat.{ℕ, _<_}
-use Rattle.rows.specs.Marks.{Marked}
+use Rattle.arranged.specs.Marks.{Marked}
 
 -- each of the n zones has a mark
 abbrev pub All-marked : List ℕ → ℕ → ℕ → Type 0

@@ -5,12 +5,13 @@ ghost use mathlib.Core.Path.{_≡_};
 ghost use lib.ListN.{length};
 use network::reach;
 use network::strong;
+use printing::least;
+use printing::number;
+use printing::others;
+use printing::trouble;
 use rules::ReachAnswer;
 use rules::StrongAnswer;
 use rules::Trouble;
-use show::number;
-use show::others;
-use show::trouble;
 
 // What a refusal says: its number, its place, and no value.
 fn show_trouble(t: Trouble) {
@@ -40,7 +41,7 @@ fn sevens() -> [u16; 28673]
 fn ask_strong(label: &[u8], zones: usize, tails: &[u16], heads: &[u16], lent: usize)
     requires { ⌜ lent ≤ 28673 ⌝ }
 {
-    io::write_all(1, label);
+    printing::label(label);
     let mut memory = sevens();
     let work: &mut [u16] = &mut memory;
     let answer = strong(zones, tails, heads, &mut work[..lent]);
@@ -64,7 +65,7 @@ fn ask_reach(
 )
     requires { ⌜ lent ≤ 28673 ⌝ }
 {
-    io::write_all(1, label);
+    printing::label(label);
     let mut memory = sevens();
     let work: &mut [u16] = &mut memory;
     let answer = reach(zones, tails, heads, from, to, &mut work[..lent]);
@@ -76,43 +77,109 @@ fn ask_reach(
     io::write_all(1, b"\n");
 }
 
-// Each refusal of the network.
-fn refusals() {
-    ask_strong(b"pair", 3, &[0, 1, 2], &[1, 2], 57);
-    ask_strong(b"no zones", 0, &[], &[], 57);
-    ask_strong(b"too many zones", 1025, &[], &[], 28673);
-    ask_strong(b"too many arcs", 2, &[0; 4097], &[1; 4097], 28673);
-    ask_strong(b"tail out of range", 3, &[0, 3], &[1, 1], 57);
-    ask_strong(b"head out of range", 3, &[0, 1], &[1, 3], 57);
-    ask_strong(b"self arc", 3, &[0, 1, 2], &[1, 2, 2], 57);
-    ask_strong(b"room", 3, &[0, 1, 2], &[1, 2, 0], 56);
-    ask_reach(b"from out of range", 3, &[0, 1], &[1, 2], 3, 0, 54);
-    ask_reach(b"to out of range", 3, &[0, 1], &[1, 2], 0, 3, 54);
-    ask_reach(b"room of a question", 3, &[0, 1], &[1, 2], 0, 2, 53);
+// What each row shows: each refusal; two troubles at once, of which the first in the order of the tests is told; yes
+// and no.
+const LABELS: [[u8; 26]; 27] = [
+    *b"pair......................",
+    *b"no zones..................",
+    *b"too many zones............",
+    *b"too many arcs.............",
+    *b"tail out of range.........",
+    *b"head out of range.........",
+    *b"self arc..................",
+    *b"room......................",
+    *b"from out of range.........",
+    *b"to out of range...........",
+    *b"room of a question........",
+    *b"pair and zones............",
+    *b"zones and arcs............",
+    *b"arcs and range............",
+    *b"range and self in one arc.",
+    *b"self, then range..........",
+    *b"self and room.............",
+    *b"network and question......",
+    *b"question and room.........",
+    *b"one zone..................",
+    *b"two zones, no arc.........",
+    *b"ring......................",
+    *b"path......................",
+    *b"path turned...............",
+    *b"along the path............",
+    *b"against the path..........",
+    *b"to itself.................",
+];
+
+// Each row's question: 0 for STRONG and 1 for REACH, from where and to where; the zones, the length of the work memory;
+// how many tails and heads there are, and those. 4,097 arcs are all from 0 to 1.
+const QUESTIONS: [[u16; 13]; 27] = [
+    [0, 0, 0, 3, 57, 3, 2, 0, 1, 2, 1, 2, 0],
+    [0, 0, 0, 0, 57, 0, 0, 0, 0, 0, 0, 0, 0],
+    [0, 0, 0, 1025, 28673, 0, 0, 0, 0, 0, 0, 0, 0],
+    [0, 0, 0, 2, 28673, 4097, 4097, 0, 0, 0, 0, 0, 0],
+    [0, 0, 0, 3, 57, 2, 2, 0, 3, 0, 1, 1, 0],
+    [0, 0, 0, 3, 57, 2, 2, 0, 1, 0, 1, 3, 0],
+    [0, 0, 0, 3, 57, 3, 3, 0, 1, 2, 1, 2, 2],
+    [0, 0, 0, 3, 56, 3, 3, 0, 1, 2, 1, 2, 0],
+    [1, 3, 0, 3, 54, 2, 2, 0, 1, 0, 1, 2, 0],
+    [1, 0, 3, 3, 54, 2, 2, 0, 1, 0, 1, 2, 0],
+    [1, 0, 2, 3, 53, 2, 2, 0, 1, 0, 1, 2, 0],
+    [0, 0, 0, 0, 57, 1, 0, 0, 0, 0, 0, 0, 0],
+    [0, 0, 0, 0, 57, 4097, 4097, 0, 0, 0, 0, 0, 0],
+    [0, 0, 0, 1, 57, 4097, 4097, 0, 0, 0, 0, 0, 0],
+    [0, 0, 0, 3, 57, 1, 1, 3, 0, 0, 3, 0, 0],
+    [0, 0, 0, 3, 57, 2, 2, 1, 3, 0, 1, 0, 0],
+    [0, 0, 0, 3, 0, 2, 2, 0, 1, 0, 1, 1, 0],
+    [1, 3, 0, 3, 54, 2, 2, 0, 3, 0, 1, 2, 0],
+    [1, 0, 3, 3, 0, 2, 2, 0, 1, 0, 1, 2, 0],
+    [0, 0, 0, 1, 16, 0, 0, 0, 0, 0, 0, 0, 0],
+    [0, 0, 0, 2, 32, 0, 0, 0, 0, 0, 0, 0, 0],
+    [0, 0, 0, 3, 57, 3, 3, 0, 1, 2, 1, 2, 0],
+    [0, 0, 0, 3, 54, 2, 2, 0, 1, 0, 1, 2, 0],
+    [0, 0, 0, 3, 60, 2, 2, 2, 1, 0, 1, 0, 0],
+    [1, 0, 2, 3, 54, 2, 2, 0, 1, 0, 1, 2, 0],
+    [1, 2, 0, 3, 54, 2, 2, 0, 1, 0, 1, 2, 0],
+    [1, 2, 2, 3, 54, 2, 2, 0, 1, 0, 1, 2, 0],
+];
+
+// A row's question about a network.
+fn ask(label: &[u8], given: [u16; 13], tails: &[u16], heads: &[u16]) {
+    let zones = given[3] as usize;
+    let lent = least(given[4] as usize, 28673);
+    if given[0] == 0 {
+        ask_strong(label, zones, tails, heads, lent);
+        return;
+    }
+    ask_reach(
+        label,
+        zones,
+        tails,
+        heads,
+        given[1] as usize,
+        given[2] as usize,
+        lent,
+    );
 }
 
-// Two troubles at once: the first in the order of the tests is told.
-fn orders() {
-    ask_strong(b"pair and zones", 0, &[0], &[], 57);
-    ask_strong(b"zones and arcs", 0, &[0; 4097], &[1; 4097], 57);
-    ask_strong(b"arcs and range", 1, &[0; 4097], &[1; 4097], 57);
-    ask_strong(b"range and self in one arc", 3, &[3], &[3], 57);
-    ask_strong(b"self, then range", 3, &[1, 3], &[1, 0], 57);
-    ask_strong(b"self and room", 3, &[0, 1], &[1, 1], 0);
-    ask_reach(b"network and question", 3, &[0, 3], &[1, 2], 3, 0, 54);
-    ask_reach(b"question and room", 3, &[0, 1], &[1, 2], 0, 3, 0);
+// A row.
+fn row(label: [u8; 26], given: [u16; 13]) {
+    if given[5] == 4097 {
+        ask(&label, given, &[0; 4097], &[1; 4097]);
+        return;
+    }
+    let a = least(given[5] as usize, 3);
+    let b = least(given[6] as usize, 3);
+    let lists = given;
+    let all = &lists[..];
+    ask(&label, given, &all[7..7 + a], &all[10..10 + b]);
 }
 
-// Yes and no.
-fn answers() {
-    ask_strong(b"one zone", 1, &[], &[], 16);
-    ask_strong(b"two zones, no arc", 2, &[], &[], 32);
-    ask_strong(b"ring", 3, &[0, 1, 2], &[1, 2, 0], 57);
-    ask_strong(b"path", 3, &[0, 1], &[1, 2], 54);
-    ask_strong(b"path turned", 3, &[2, 1], &[1, 0], 60);
-    ask_reach(b"along the path", 3, &[0, 1], &[1, 2], 0, 2, 54);
-    ask_reach(b"against the path", 3, &[0, 1], &[1, 2], 2, 0, 54);
-    ask_reach(b"to itself", 3, &[0, 1], &[1, 2], 2, 2, 54);
+// All rows.
+fn rows() {
+    let mut i = 0;
+    while i < 27 {
+        row(LABELS[i], QUESTIONS[i]);
+        i += 1;
+    }
 }
 
 // The elements are i + by, around 1,024 zones.
@@ -139,9 +206,7 @@ fn largest(label: &[u8], by: usize, to: usize)
 }
 
 fn main() {
-    refusals();
-    orders();
-    answers();
+    rows();
     largest(b"one ring, to the last zone", 1, 1023);
     largest(b"two rings, to a zone of the first", 2, 1022);
     largest(b"two rings, to a zone of the second", 2, 1023);

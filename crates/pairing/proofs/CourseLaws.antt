@@ -16,15 +16,15 @@ use lib.Seq.{ext-getD, getD-drop, getD-set-other}
 use Rattle.rules.specs.Network.{Arc}
 use Rattle.rules.specs.Plan.{pick}
 use Rattle.memory.specs.Regions.{part, Holds}
-use Rattle.rows.specs.Arranged.{Between, Arranged-at}
-use Rattle.rows.specs.declared.Found.{Found}
-use Rattle.rows.specs.declared.Found.the-variants.{At, Nothing}
+use Rattle.arranged.specs.declared.Found.{Found}
+use Rattle.arranged.specs.declared.Found.the-variants.{At, Nothing}
 use Rattle.memory.proofs.Regions.{part-long, holds-part, holds-at, holds-apart, holds-none, holds-snoc, holds-store}
-use Rattle.rows.proofs.ArrangedLaws.{arranged-kept}
+use Rattle.arranged.proofs.ArrangedLaws.{arranged-kept}
 use Rattle.search.specs.Marking.{Laid}
 use Rattle.search.proofs.Course.{laid-same}
-use Rattle.pairing.specs.Turn.{Turnable, answered, Turned}
-use Rattle.pairing.specs.Pairs.{Places, sources-in, sinks-in, reach-in, firsts, seconds}
+use Rattle.workmap.specs.declared.Side.{Side}
+use Rattle.pairing.specs.Turn.{Along, Turnable, answered, Turned}
+use Rattle.pairing.specs.Pairs.{sources-in, sinks-in, reach-in, firsts, seconds}
 use Rattle.pairing.specs.Pairs.{Pairable, Others, Course, Paired}
 use Rattle.pairing.proofs.PairLaws.{
   couple,
@@ -50,21 +50,24 @@ holds-next : (w : List ℕ) (at : ℕ) (xs : List ℕ) (k x : ℕ) → k ≡ at 
 holds-next w at xs k x e h fits = rw e (holds-snoc w at xs x h (omega arith))
 
 -- a store into the lists of the result changes nothing else
-store-others : (v w : List ℕ) (L : Places) (k x : ℕ) → Others v w L → L .firsts-at ≤ k →
-    k < L .lone-at + L .zones → Others v (set w k x) L
+store-others : (v w : List ℕ) (L : Side) (k x : ℕ) → Others v w L → L .pairs .firsts ≤ k →
+    k < L .pairs .lone + L .rows .zones → Others v (set w k x) L
 store-others v w L k x O low high =
     record {
       long = simp length-set (O .long);
       same = λ i behind out far.
           let apart : i ≢ k =
-          λ e. ⊎-elim (λ (l : i < L .firsts-at). omega arith) (λ (l : L .lone-at + L .zones ≤ i). omega arith) far
+          λ e. ⊎-elim (λ (l : i < L .pairs .firsts). omega arith)
+          (λ (l : L .pairs .lone + L .rows .zones ≤ i). omega arith) far
           in
           getD-set-other w k i x 0 apart ∙ O .same i behind out far;
     }
 
 -- a list before those of the result, and apart from the sinks, stands where it stood
-pub others-holds : (v w : List ℕ) (L : Places) (at : ℕ) (xs : List ℕ) → Others v w L → L .zones + L .zones ≤ at →
-    (at + length xs ≤ L .sinks-at) ⊎ (L .sinks-at + L .zones ≤ at) → at + length xs ≤ L .firsts-at → Holds v at xs →
+pub others-holds : (v w : List ℕ) (L : Side) (at : ℕ) (xs : List ℕ) → Others v w L → L .search .queue + L .rows .zones
+    ≤ at →
+    (at + length xs ≤ L .lists .sinks) ⊎ (L .lists .sinks + L .rows .zones ≤ at) → at + length xs ≤ L .pairs .firsts →
+    Holds v at xs →
     Holds w at xs
 others-holds v w L at xs O low apart high h =
     holds-apart v w at xs (O .long)
@@ -72,93 +75,94 @@ others-holds v w L at xs O low apart high h =
     O .same k
     (omega arith)
     (⊎-elim
-    (λ (s : at + length xs ≤ L .sinks-at). inl (omega arith))
-    (λ (s : L .sinks-at + L .zones ≤ at). inr (omega arith))
+    (λ (s : at + length xs ≤ L .lists .sinks). inl (omega arith))
+    (λ (s : L .lists .sinks + L .rows .zones ≤ at). inr (omega arith))
     apart)
     (inl (omega arith)))
     h
 
 -- nothing is paired yet
-pub course-begun : (w : List ℕ) (L : Places) → Pairable w L → Course w w L 0 0
-course-begun w L P =
+pub course-begun : (w : List ℕ) (L : Side) (s t : ℕ) → Pairable w L s t → Course w w L s t 0 0
+course-begun w L s t P =
     let D = P .laid in
-    let fits : L .sinks-at + L .sinks ≤ length w = omega arith in
-    let long : length (sinks-in w L) ≡ L .sinks = part-long w (L .sinks-at) (L .sinks) (omega arith) in
+    let fits : L .lists .sinks + t ≤ length w = omega arith in
+    let long : length (sinks-in w L t) ≡ t = part-long w (L .lists .sinks) t (omega arith) in
     record {
       able = P;
       pairs = [];
       lone = [];
-      left = sinks-in w L;
+      left = sinks-in w L t;
       turns = omega arith;
       pairs-long = refl;
       lone-long = refl;
       left-long = omega arith;
       small = P .sinks-small;
       others = record { long = refl; same = λ i low out far. refl };
-      firsts-held = holds-none w (L .firsts-at);
-      seconds-held = holds-none w (L .seconds-at);
-      lone-held = holds-none w (L .lone-at);
-      left-held = holds-part w (L .sinks-at) (L .sinks) fits;
-      so-far = λ es A B. refl;
+      firsts-held = holds-none w (L .pairs .firsts);
+      seconds-held = holds-none w (L .pairs .seconds);
+      lone-held = holds-none w (L .pairs .lone);
+      left-held = holds-part w (L .lists .sinks) t fits;
+      so-far = λ es A. refl;
     }
 
-module _ (v w : List ℕ) (L : Places) (i p : ℕ) (C : Course v w L i p) where
+module _ (v w : List ℕ) (L : Side) (s t i p : ℕ) (C : Course v w L s t i p) where
   -- what lies behind the lone sources is as it was
-  behind-kept : (n : ℕ) → L .lone-at + L .zones ≤ n → drop n w ≡ drop n v
+  behind-kept : (n : ℕ) → L .pairs .lone + L .rows .zones ≤ n → drop n w ≡ drop n v
   behind-kept n far =
       let P = C .able in
       drop-same v w n (C .others .long)
       (λ k h. C .others .same k (omega arith) (inr (omega arith)) (inr (omega arith)))
 
   -- so the rows are
-  rows-kept : drop (L .starts) w ≡ drop (L .starts) v
-  rows-kept = behind-kept (L .starts) (C .able .lone-before)
+  rows-kept : drop (L .rows .starts) w ≡ drop (L .rows .starts) v
+  rows-kept = behind-kept (L .rows .starts) (C .able .lone-before)
 
   -- so the memory is laid out still
-  laid : Laid w (L .zones) (L .starts) (L .rows) 0 (L .zones)
-  laid = laid-same v w (L .zones) (L .starts) (L .rows) 0 (L .zones) (C .others .long) rows-kept (C .able .laid)
+  laid : Laid w (L .rows) (L .search)
+  laid = laid-same v w (L .rows .zones) (L .rows .starts) (L .rows .rows) (L .search .marks) (L .search .queue)
+      (C .others .long) rows-kept (C .able .laid)
 
   -- the sources are as many as the call says
-  sources-long : length (sources-in v L) ≡ L .sources
+  sources-long : length (sources-in v L s) ≡ s
   sources-long =
       let P = C .able in
       let D = P .laid in
-      part-long v (L .sources-at) (L .sources) (omega arith)
+      part-long v (L .lists .sources) s (omega arith)
 
   -- a source stands where it stood
-  source-at : (k : ℕ) → k < L .sources → getD w (L .sources-at + k) 0 ≡ getD (sources-in v L) k 0
+  source-at : (k : ℕ) → k < s → getD w (L .lists .sources + k) 0 ≡ getD (sources-in v L s) k 0
   source-at k h =
       let P = C .able in
       let D = P .laid in
       let long = sources-long in
-      holds-at w (L .sources-at) (sources-in v L)
-      (others-holds v w L (L .sources-at) (sources-in v L) (C .others) (P .sources-behind)
+      holds-at w (L .lists .sources) (sources-in v L s)
+      (others-holds v w L (L .lists .sources) (sources-in v L s) (C .others) (P .sources-behind)
       (⊎-elim
-      (λ (l : L .sources-at + L .zones ≤ L .sinks-at). inl (omega arith))
-      (λ (l : L .sinks-at + L .zones ≤ L .sources-at). inr l)
+      (λ (l : L .lists .sources + L .rows .zones ≤ L .lists .sinks). inl (omega arith))
+      (λ (l : L .lists .sinks + L .rows .zones ≤ L .lists .sources). inr l)
       (P .apart))
       (omega arith)
-      (holds-part v (L .sources-at) (L .sources) (omega arith)))
+      (holds-part v (L .lists .sources) s (omega arith)))
       k
       (omega arith)
 
   -- the sinks left stand where the sinks stood
-  left-is : part w (L .sinks-at) (L .sinks - p) ≡ C .left
+  left-is : part w (L .lists .sinks) (t - p) ≡ C .left
   left-is =
-      let few : L .sinks - p ≡ length (C .left) = omega (arith, C .left-long) in
-      ap (λ (n : ℕ). part w (L .sinks-at) n) few ∙ C .left-held
+      let few : t - p ≡ length (C .left) = omega (arith, C .left-long) in
+      ap (λ (n : ℕ). part w (L .lists .sinks) n) few ∙ C .left-held
 
-  module _ (x : ℕ) (is : x ≡ getD w (L .sources-at + i) 0) (more : i < L .sources) where
+  module _ (x : ℕ) (is : x ≡ getD w (L .lists .sources + i) 0) (more : i < s) where
     -- the source is the next of those given
-    source-is : x ≡ getD (sources-in v L) i 0
+    source-is : x ≡ getD (sources-in v L s) i 0
     source-is = is ∙ source-at i more
 
     -- it is a zone
-    source-zone : x < L .zones
+    source-zone : x < L .rows .zones
     source-zone = rw source-is (C .able .sources-small i (omega (arith, sources-long)))
 
     -- it can have its turn
-    pub turnable : Turnable w (L .zones) (L .starts) (L .rows) x (L .sinks-at) (L .sinks - p)
+    pub turnable : Turnable w (L .rows) (L .search) x (L .lists .sinks) (t - p)
     turnable =
         let P = C .able in
         record {
@@ -173,7 +177,7 @@ module _ (v w : List ℕ) (L : Places) (i p : ℕ) (C : Course v w L i p) where
     module _
         (w' : List ℕ)
         (r : Found)
-        (T : Turned w w' (L .zones) (L .starts) (L .rows) x (L .sinks-at) (L .sinks - p) r)
+        (T : Turned w w' (L .rows) (L .search) x (L .lists .sinks) (t - p) r)
       where
         -- nothing else has changed
         turn-others : Others v w' L
@@ -184,35 +188,40 @@ module _ (v w : List ℕ) (L : Places) (i p : ℕ) (C : Course v w L i p) where
               same = λ k low out far.
                   T .others k low
                   (⊎-elim
-                  (λ (l : k < L .sinks-at). inl l)
-                  (λ (l : L .sinks-at + L .zones ≤ k). inr (omega arith))
+                  (λ (l : k < L .lists .sinks). inl l)
+                  (λ (l : L .lists .sinks + L .rows .zones ≤ k). inr (omega arith))
                   out)
                   ∙ C .others .same k low out far;
             }
 
         -- a list behind the sinks stands where it stood
-        turn-holds : (at : ℕ) (xs : List ℕ) → L .sinks-at + L .zones ≤ at → Holds w at xs → Holds w' at xs
+        turn-holds : (at : ℕ) (xs : List ℕ) → L .lists .sinks + L .rows .zones ≤ at → Holds w at xs → Holds w' at xs
         turn-holds at xs low h =
             let P = C .able in
             holds-apart w w' at xs (T .long) (λ k l m. T .others k (omega arith) (inr (omega arith))) h
 
         -- what was found is what the source picks of the sinks left
-        turn-picks : (es : List Arc) → Arranged-at v (L .zones) (L .starts) (L .rows) es → Between (L .zones) es →
+        turn-picks : (es : List Arc) → Along v (L .rows) es →
             pick (reach-in L es x) (C .left) ≡ answered r (T .rest)
-        turn-picks es A B =
+        turn-picks es A =
             rw left-is at
-            (T .found es (arranged-kept v w (L .zones) (L .starts) (L .rows) es rows-kept A) B)
+            (T .found es
+            (record {
+              arranged =
+                  arranged-kept v w (L .rows) es rows-kept (A .arranged);
+              between = A .between;
+            }))
 
     -- the source reaches none of the sinks left, and goes behind the lone sources
     pub course-lone : (w' : List ℕ) →
-        Turned w w' (L .zones) (L .starts) (L .rows) x (L .sinks-at) (L .sinks - p) Nothing →
-        Course v (set w' (L .lone-at + i - p) x) L (i + 1) p
+        Turned w w' (L .rows) (L .search) x (L .lists .sinks) (t - p) Nothing →
+        Course v (set w' (L .pairs .lone + i - p) x) L s t (i + 1) p
     course-lone w' T =
         let P = C .able in
         let D = P .laid in
         let O = turn-others w' Nothing T in
-        let place = L .lone-at + i - p in
-        let is-place : place ≡ L .lone-at + length (C .lone) = omega arith in
+        let place = L .pairs .lone + i - p in
+        let is-place : place ≡ L .pairs .lone + length (C .lone) = omega arith in
         let long : length w' ≡ length v = O .long in
         let cs = C .pairs in
         let first-long : length (firsts cs) ≡ p = firsts-long cs ∙ C .pairs-long in
@@ -230,42 +239,42 @@ module _ (v w : List ℕ) (L : Places) (i p : ℕ) (C : Course v w L i p) where
           small = C .small;
           others = store-others v w' L place x O (omega arith) (omega arith);
           firsts-held =
-              holds-store w' (L .firsts-at) (firsts cs) place x (inr (omega arith))
-              (turn-holds w' Nothing T (L .firsts-at) (firsts cs) (omega arith) (C .firsts-held));
+              holds-store w' (L .pairs .firsts) (firsts cs) place x (inr (omega arith))
+              (turn-holds w' Nothing T (L .pairs .firsts) (firsts cs) (omega arith) (C .firsts-held));
           seconds-held =
-              holds-store w' (L .seconds-at) (seconds cs) place x (inr (omega arith))
-              (turn-holds w' Nothing T (L .seconds-at) (seconds cs) (omega arith) (C .seconds-held));
+              holds-store w' (L .pairs .seconds) (seconds cs) place x (inr (omega arith))
+              (turn-holds w' Nothing T (L .pairs .seconds) (seconds cs) (omega arith) (C .seconds-held));
           lone-held =
-              holds-next w' (L .lone-at) (C .lone) place x is-place
-              (turn-holds w' Nothing T (L .lone-at) (C .lone) (omega arith) (C .lone-held))
+              holds-next w' (L .pairs .lone) (C .lone) place x is-place
+              (turn-holds w' Nothing T (L .pairs .lone) (C .lone) (omega arith) (C .lone-held))
               (omega arith);
           left-held =
-              holds-store w' (L .sinks-at) (C .left) place x (inr (omega (arith, C .left-long)))
+              holds-store w' (L .lists .sinks) (C .left) place x (inr (omega (arith, C .left-long)))
               (rw (T .over ∙ left-is) at (T .held));
-          so-far = λ es A B.
-              C .so-far es A B
-              ∙ lone-more (reach-in L es) cs (C .lone) (sources-in v L) (C .left) i x
-              (omega (arith, sources-long)) source-is (turn-picks w' Nothing T es A B);
+          so-far = λ es A.
+              C .so-far es A
+              ∙ lone-more (reach-in L es) cs (C .lone) (sources-in v L s) (C .left) i x
+              (omega (arith, sources-long)) source-is (turn-picks w' Nothing T es A);
         }
 
     -- the source takes the sink z, and both go behind those of the pairs
     pub course-paired : (w' : List ℕ) (z : ℕ) →
-        Turned w w' (L .zones) (L .starts) (L .rows) x (L .sinks-at) (L .sinks - p) (At z) →
-        Course v (set (set w' (L .firsts-at + p) x) (L .seconds-at + p) z) L (i + 1) (p + 1)
+        Turned w w' (L .rows) (L .search) x (L .lists .sinks) (t - p) (At z) →
+        Course v (set (set w' (L .pairs .firsts + p) x) (L .pairs .seconds + p) z) L s t (i + 1) (p + 1)
     course-paired w' z T =
         let P = C .able in
         let D = P .laid in
         let O = turn-others w' (At z) T in
         let long : length w' ≡ length v = O .long in
         let cs = C .pairs in
-        let u = set w' (L .firsts-at + p) x in
-        let u-long : length u ≡ length w' = length-set w' (L .firsts-at + p) x in
+        let u = set w' (L .pairs .firsts + p) x in
+        let u-long : length u ≡ length w' = length-set w' (L .pairs .firsts + p) x in
         let first-long : length (firsts cs) ≡ p = firsts-long cs ∙ C .pairs-long in
         let second-long : length (seconds cs) ≡ p = seconds-long cs ∙ C .pairs-long in
-        let first-next : L .firsts-at + p ≡ L .firsts-at + length (firsts cs) = omega arith in
-        let second-next : L .seconds-at + p ≡ L .seconds-at + length (seconds cs) = omega arith in
-        let few : p < L .zones = omega (arith, C .lone-long) in
-        let left-fewer : length (T .rest) + 1 + p ≡ L .sinks =
+        let first-next : L .pairs .firsts + p ≡ L .pairs .firsts + length (firsts cs) = omega arith in
+        let second-next : L .pairs .seconds + p ≡ L .pairs .seconds + length (seconds cs) = omega arith in
+        let few : p < L .rows .zones = omega (arith, C .lone-long) in
+        let left-fewer : length (T .rest) + 1 + p ≡ t =
         omega (arith, T .over .1, ap length left-is, C .left-long)
         in
         record {
@@ -279,47 +288,47 @@ module _ (v w : List ℕ) (L : Places) (i p : ℕ) (C : Course v w L i p) where
           left-long = omega arith;
           small = T .small;
           others =
-              store-others v u L (L .seconds-at + p) z
-              (store-others v w' L (L .firsts-at + p) x O (omega arith) (omega arith))
+              store-others v u L (L .pairs .seconds + p) z
+              (store-others v w' L (L .pairs .firsts + p) x O (omega arith) (omega arith))
               (omega arith)
               (omega arith);
           firsts-held =
               rw (firsts-more cs x z)
-              (holds-store u (L .firsts-at) (firsts cs ++ (x ∷ [])) (L .seconds-at + p) z
+              (holds-store u (L .pairs .firsts) (firsts cs ++ (x ∷ [])) (L .pairs .seconds + p) z
               (inr (simp length-append (omega arith)))
-              (holds-next w' (L .firsts-at) (firsts cs) (L .firsts-at + p) x first-next
-              (turn-holds w' (At z) T (L .firsts-at) (firsts cs) (omega arith) (C .firsts-held))
+              (holds-next w' (L .pairs .firsts) (firsts cs) (L .pairs .firsts + p) x first-next
+              (turn-holds w' (At z) T (L .pairs .firsts) (firsts cs) (omega arith) (C .firsts-held))
               (omega arith)));
           seconds-held =
               rw (seconds-more cs x z)
-              (holds-next u (L .seconds-at) (seconds cs) (L .seconds-at + p) z second-next
-              (holds-store w' (L .seconds-at) (seconds cs) (L .firsts-at + p) x (inl (omega arith))
-              (turn-holds w' (At z) T (L .seconds-at) (seconds cs) (omega arith) (C .seconds-held)))
+              (holds-next u (L .pairs .seconds) (seconds cs) (L .pairs .seconds + p) z second-next
+              (holds-store w' (L .pairs .seconds) (seconds cs) (L .pairs .firsts + p) x (inl (omega arith))
+              (turn-holds w' (At z) T (L .pairs .seconds) (seconds cs) (omega arith) (C .seconds-held)))
               (omega arith));
           lone-held =
-              holds-store u (L .lone-at) (C .lone) (L .seconds-at + p) z (inl (omega arith))
-              (holds-store w' (L .lone-at) (C .lone) (L .firsts-at + p) x (inl (omega arith))
-              (turn-holds w' (At z) T (L .lone-at) (C .lone) (omega arith) (C .lone-held)));
+              holds-store u (L .pairs .lone) (C .lone) (L .pairs .seconds + p) z (inl (omega arith))
+              (holds-store w' (L .pairs .lone) (C .lone) (L .pairs .firsts + p) x (inl (omega arith))
+              (turn-holds w' (At z) T (L .pairs .lone) (C .lone) (omega arith) (C .lone-held)));
           left-held =
-              holds-store u (L .sinks-at) (T .rest) (L .seconds-at + p) z (inr (omega arith))
-              (holds-store w' (L .sinks-at) (T .rest) (L .firsts-at + p) x (inr (omega arith)) (T .held));
-          so-far = λ es A B.
-              C .so-far es A B
-              ∙ pair-more (reach-in L es) cs (C .lone) (sources-in v L) (C .left) i x (omega (arith, sources-long))
-              source-is z (T .rest) (turn-picks w' (At z) T es A B);
+              holds-store u (L .lists .sinks) (T .rest) (L .pairs .seconds + p) z (inr (omega arith))
+              (holds-store w' (L .lists .sinks) (T .rest) (L .pairs .firsts + p) x (inr (omega arith)) (T .held));
+          so-far = λ es A.
+              C .so-far es A
+              ∙ pair-more (reach-in L es) cs (C .lone) (sources-in v L s) (C .left) i x (omega (arith, sources-long))
+              source-is z (T .rest) (turn-picks w' (At z) T es A);
         }
 
 -- every source has had its turn: the memory holds the ordering
-pub course-done : (v w : List ℕ) (L : Places) (p : ℕ) → Course v w L (L .sources) p → Paired v w L p
-course-done v w L p C =
+pub course-done : (v w : List ℕ) (L : Side) (s t p : ℕ) → Course v w L s t s p → Paired v w L s t p
+course-done v w L s t p C =
     record {
       others = C .others;
-      behind = behind-kept v w L (L .sources) p C;
-      ordered = λ es A B.
+      behind = behind-kept v w L s t s p C;
+      ordered = λ es A.
           rw
-          (C .so-far es A B
-          ∙ pairing-done (reach-in L es) (C .pairs) (C .lone) (sources-in v L) (C .left) (L .sources)
-          (omega (arith, sources-long v w L (L .sources) p C)))
+          (C .so-far es A
+          ∙ pairing-done (reach-in L es) (C .pairs) (C .lone) (sources-in v L s) (C .left) s
+          (omega (arith, sources-long v w L s t s p C)))
           (record {
             count = sym (C .pairs-long);
             firsts-held = C .firsts-held;

@@ -1,9 +1,10 @@
 -- One source's turn in the pairing: a search, the first marked place of the sinks left, and that place taken out.
---   Clear w marks v     zone v has no mark
+--   Unmarked w marks v     zone v has no mark
 --   First-marked ..     what the look along a list of zones finds
 --   Outside i at n      place i is none of the n places from `at` on
 --   Taken-out ..        a list has lost one place
 --   without j xs        the list xs without its place j
+--   Along w R es        the arcs es stand in the rows R
 --   Turnable, Turned    what a turn asks and leaves: the sinks left, and the answer of `pick` for them
 use mathlib.Core.Path.{_≡_}
 use mathlib.Core.Logic.{_⊎_}
@@ -13,23 +14,25 @@ use Prim.Native.Nat.{ℕ, suc, _+_, _≤_, _<_}
 use lib.ListN.{length, getD, take, drop}
 use Rattle.rules.specs.Network.{Arc, network-of, reaches}
 use Rattle.rules.specs.Plan.{Picked, pick}
-use Rattle.rows.specs.Marks.{Marked}
+use Rattle.arranged.specs.Marks.{Marked}
 use Rattle.memory.specs.Regions.{part, Holds}
-use Rattle.rows.specs.Arranged.{Between, Arranged-at}
-use Rattle.rows.specs.declared.Found.{Found}
-use Rattle.rows.specs.declared.Found.the-variants.{At, Nothing}
+use Rattle.arranged.specs.Arranged.{Between, Arranged-at}
+use Rattle.arranged.specs.declared.Found.{Found}
+use Rattle.arranged.specs.declared.Found.the-variants.{At, Nothing}
 use Rattle.search.specs.Marking.{Laid}
+use Rattle.workmap.specs.declared.RowsAt.{RowsAt}
+use Rattle.workmap.specs.declared.SearchAt.{SearchAt}
 
 -- zone v has no mark
-abbrev pub Clear : List ℕ → ℕ → ℕ → Type 0
-Clear w marks v = getD w (marks + v) 0 ≡ 0
+abbrev pub Unmarked : List ℕ → ℕ → ℕ → Type 0
+Unmarked w marks v = getD w (marks + v) 0 ≡ 0
 
 -- j is the first place whose zone has a mark, or none of the list has one
 abbrev pub First-marked : List ℕ → ℕ → ℕ → ℕ → Found → Type 0
 First-marked w marks at count (At j) =
     (j < count)
-    × (Marked w marks (getD w (at + j) 0) × ((k : ℕ) → k < j → Clear w marks (getD w (at + k) 0)))
-First-marked w marks at count Nothing = (k : ℕ) → k < count → Clear w marks (getD w (at + k) 0)
+    × (Marked w marks (getD w (at + j) 0) × ((k : ℕ) → k < j → Unmarked w marks (getD w (at + k) 0)))
+First-marked w marks at count Nothing = (k : ℕ) → k < count → Unmarked w marks (getD w (at + k) 0)
 
 -- place i is none of the n places from `at` on
 abbrev pub Outside : ℕ → ℕ → ℕ → Type 0
@@ -50,13 +53,18 @@ without j xs = take j xs ++ drop (suc j) xs
 abbrev pub All-below : ℕ → List ℕ → Type 0
 All-below n xs = (k : ℕ) → k < length xs → getD xs k 0 < n
 
--- the rows are laid out behind marks and stack, the sinks left stand between them, and source and sinks are zones
-pub record Turnable (w : List ℕ) (zones starts rows source at left : ℕ) : Type 0 where
-  pub laid : Laid w zones starts rows 0 zones
-  pub zone : source < zones
-  pub behind : zones + zones ≤ at
-  pub before : at + left ≤ starts
-  pub small : All-below zones (part w at left)
+-- the arcs es, all between zones, stand in the rows
+pub record Along (w : List ℕ) (R : RowsAt) (es : List Arc) : Type 0 where
+  pub arranged : Arranged-at w R es
+  pub between : Between (R .zones) es
+
+-- the rows are laid out behind marks and queue, the sinks left stand between them, and source and sinks are zones
+pub record Turnable (w : List ℕ) (R : RowsAt) (S : SearchAt) (source at left : ℕ) : Type 0 where
+  pub laid : Laid w R S
+  pub zone : source < R .zones
+  pub behind : S .queue + R .zones ≤ at
+  pub before : at + left ≤ R .starts
+  pub small : All-below (R .zones) (part w at left)
 
 -- what `pick` answers where a turn finds the sink z, or nothing, and `rest` is left
 abbrev pub answered : Found → List ℕ → Option Picked
@@ -70,15 +78,14 @@ Left-over n xs Nothing rest = rest ≡ xs
 
 -- a turn: the list `rest` of the sinks that are left stands where the sinks stood, and what was found is what `pick`
 -- finds in any network whose arcs are arranged in the rows; only marks, stack and the list of sinks may differ
-pub record Turned (w w' : List ℕ) (zones starts rows source at left : ℕ) (r : Found) : Type 0 where
+pub record Turned (w w' : List ℕ) (R : RowsAt) (S : SearchAt) (source at left : ℕ) (r : Found) : Type 0 where
   pub rest : List ℕ
   pub long : length w' ≡ length w
-  pub others : (i : ℕ) → zones + zones ≤ i → Outside i at left → getD w' i 0 ≡ getD w i 0
+  pub others : (i : ℕ) → S .queue + R .zones ≤ i → Outside i at left → getD w' i 0 ≡ getD w i 0
   pub held : Holds w' at rest
-  pub small : All-below zones rest
-  pub over : Left-over zones (part w at left) r rest
+  pub small : All-below (R .zones) rest
+  pub over : Left-over (R .zones) (part w at left) r rest
   pub found :
       (es : List Arc) →
-      Arranged-at w zones starts rows es →
-      Between zones es →
-      pick (reaches (network-of zones es) source) (part w at left) ≡ answered r rest
+      Along w R es →
+      pick (reaches (network-of (R .zones) es) source) (part w at left) ≡ answered r rest

@@ -1,14 +1,17 @@
 // Points 1 and 2 of the plan rule, in lent work memory: each source in turn takes the lowest sink that it reaches and
 // that is still unpaired, or stays unpaired. One search a source; a search takes no sink but the one that it pairs.
-use memory::clear;
+use arranged::Found;
+use memory::fill;
 use memory::wide;
-use rows::Found;
 use search::search;
+use workmap::RowsAt;
+use workmap::SearchAt;
+use workmap::Side;
 ghost use mathlib.Core.List.{List};
 ghost use Prim.Native.Nat.{ℕ, _+_, _≤_, _<_};
 ghost use lib.ListN.{length, getD};
 ghost use Rattle.pairing.specs.Turn.{First-marked, Taken-out, Turnable, Turned};
-ghost use Rattle.pairing.specs.Pairs.{places, Pairable, Course, Underway, Paired};
+ghost use Rattle.pairing.specs.Pairs.{Pairable, Course, Pairing-underway, Paired};
 
 // The first place in a list of zones, `count` of them from `at` on, whose zone has a mark.
 fn first_marked(work: &[u16], marks: usize, at: usize, count: usize) -> Found
@@ -40,61 +43,47 @@ fn take_out(work: &mut [u16], at: usize, count: usize, j: usize)
     }
 }
 
-// One source's turn: the first of the sinks left that a search from the source marks is taken out and answered.
+// One source's turn: the first of the sinks left that a search from the source marks is taken out and answered. The
+// sinks left, `left` of them, stand from `sinks` on.
 fn turn(
     work: &mut [u16],
-    zones: usize,
-    starts: usize,
-    rows: usize,
+    rows: RowsAt,
+    at: SearchAt,
     source: usize,
-    at: usize,
+    sinks: usize,
     left: usize,
 ) -> Found
-    requires { ⌜ Turnable (now work) zones starts rows source at left ⌝ }
-    ensures { λ r. ⌜ Turned (now (work .entry)) (now (work .exit)) zones starts rows source at left r ⌝ }
+    requires { ⌜ Turnable (now work) rows at source sinks left ⌝ }
+    ensures { λ r. ⌜ Turned (now (work .entry)) (now (work .exit)) rows at source sinks left r ⌝ }
 {
-    clear(work, zones);
-    search(work, zones, starts, rows, source, 0, zones);
-    match first_marked(work, 0, at, left) {
+    fill(work, at.marks, rows.zones, 0);
+    search(work, rows, at, source);
+    match first_marked(work, at.marks, sinks, left) {
         Found::Nothing => {
             return Found::Nothing;
         }
         Found::At(j) => {
-            let z = wide(work[at + j]);
-            take_out(work, at, left, j);
+            let z = wide(work[sinks + j]);
+            take_out(work, sinks, left, j);
             return Found::At(z);
         }
     }
 }
 
-// The turn of the source i, with p pairs made: source and sink go to the pairs, or the source to those that stay
-// unpaired. Answers the number of pairs.
-fn settle(
-    work: &mut [u16],
-    zones: usize,
-    starts: usize,
-    rows: usize,
-    s: usize,
-    sources: usize,
-    t: usize,
-    sinks: usize,
-    firsts: usize,
-    seconds: usize,
-    lone: usize,
-    i: usize,
-    p: usize,
-) -> usize
-    requires { ⌜ Underway (now work)
-        (places zones starts rows s sources t sinks firsts seconds lone) i p ⌝ }
-    ensures { λ r. ⌜ ((v : List ℕ) →
-        Course v (now (work .entry))
-        (places zones starts rows s sources t sinks firsts seconds lone) i p →
-        Course v (now (work .exit))
-        (places zones starts rows s sources t sinks firsts seconds lone) (i + 1) r) ⌝ }
+// The turn of the source i of the s sources, with p pairs made of them and the t sinks: source and sink go to the
+// pairs, or the source to those that stay unpaired. Answers the number of pairs.
+fn settle(work: &mut [u16], at: Side, s: usize, t: usize, i: usize, p: usize) -> usize
+    requires { ⌜ Pairing-underway (now work) at s t i p ⌝ }
+    ensures { λ r. ⌜ ((v : List ℕ) → Course v (now (work .entry)) at s t i p →
+        Course v (now (work .exit)) at s t (i + 1) r) ⌝ }
 {
+    let sources = at.lists.sources;
+    let firsts = at.pairs.firsts;
+    let seconds = at.pairs.seconds;
+    let lone = at.pairs.lone;
     let v = work[sources + i];
     let source = wide(v);
-    match turn(work, zones, starts, rows, source, sinks, t - p) {
+    match turn(work, at.rows, at.search, source, at.lists.sinks, t - p) {
         Found::Nothing => {
             work[lone + i - p] = v;
             return p;
@@ -107,44 +96,17 @@ fn settle(
     }
 }
 
-// Pairs the s sources that stand from `sources` on with the t sinks from `sinks` on. The sources of the pairs then
-// stand from `firsts` on, their sinks from `seconds` on, the sources that stay unpaired from `lone` on, and the sinks
-// that do where the sinks stood. Answers the number of pairs.
-pub fn pair(
-    work: &mut [u16],
-    zones: usize,
-    starts: usize,
-    rows: usize,
-    s: usize,
-    sources: usize,
-    t: usize,
-    sinks: usize,
-    firsts: usize,
-    seconds: usize,
-    lone: usize,
-) -> usize
-    requires { ⌜ Pairable (now work) (places zones starts rows s sources t sinks firsts seconds lone) ⌝ }
-    ensures { λ r. ⌜ Paired (now (work .entry)) (now (work .exit))
-        (places zones starts rows s sources t sinks firsts seconds lone) r ⌝ }
+// Pairs the s sources of a side with its t sinks. The side says where both stand, and where the pairs and the sources
+// that stay unpaired are put; the sinks that stay unpaired then stand where the sinks stood. Answers the number of
+// pairs.
+pub fn pair(work: &mut [u16], at: Side, s: usize, t: usize) -> usize
+    requires { ⌜ Pairable (now work) at s t ⌝ }
+    ensures { λ r. ⌜ Paired (now (work .entry)) (now (work .exit)) at s t r ⌝ }
 {
     let mut i = 0;
     let mut p = 0;
     while i < s {
-        p = settle(
-            work,
-            zones,
-            starts,
-            rows,
-            s,
-            sources,
-            t,
-            sinks,
-            firsts,
-            seconds,
-            lone,
-            i,
-            p,
-        );
+        p = settle(work, at, s, t, i, p);
         i += 1;
     }
     p

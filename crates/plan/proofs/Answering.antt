@@ -14,22 +14,25 @@ use borrow.Author.Tests.{ltb-false}
 use Rattle.rules.specs.declared.Trouble.{Trouble}
 use Rattle.rules.specs.declared.PlanAnswer.{PlanAnswer}
 use Rattle.rules.specs.Lists.{over, cleared}
-use Rattle.rules.specs.Answers.{trouble-refusal}
+use Rattle.rules.specs.Network.{Network}
 use Rattle.rules.specs.Plan.{Link, why-number, plan}
-use Rattle.rules.specs.Calls.{network-tests, room-test, asked-work, handed, plan-trouble, plan-says}
-use Rattle.rules.specs.Calls.{plan-leaves-work, plan-leaves-from, plan-leaves-to, plan-leaves-why}
+use Rattle.rules.specs.Answers.{plan-told}
+use Rattle.rules.specs.Calls.{network-tests, room-test, asked-work, handed, plan-trouble}
+use Rattle.rules.specs.Promises.{Plan-promise}
 use Rattle.memory.specs.Regions.{part, Holds}
-use Rattle.tests.proofs.Troubles.{passes, both-pass}
-use Rattle.tests.proofs.Fine.{fine}
-use Rattle.network.specs.Ready.{Readyable}
-use Rattle.network.proofs.Memory.{cleared-back}
-use Rattle.plan.specs.declared.Layout.{Layout}
-use Rattle.plan.specs.Connect.{whys-at}
-use Rattle.plan.specs.Promise.{Laid-out, Plan-promise}
+use Rattle.theory.proofs.Files.Troubles.{passes, both-pass}
+use Rattle.intake.proofs.Fine.{fine}
+use Rattle.workmap.specs.declared.Map.{Map}
+use Rattle.workmap.specs.Map.{map-of}
+use Rattle.memory.proofs.Cleared.{cleared-back}
+use Rattle.arranged.specs.Ready.{Readyable}
+use Rattle.figures.specs.declared.Layout.{Layout}
+use Rattle.figures.specs.Figures.{Figures, Carried}
+use Rattle.laying.specs.Layout.{Laid-out}
 
 -- the input passes the tests, and each lent list is as long as asked
-pub record Plannable (n : ℕ) (ts hs w from to why : List ℕ) : Type 0 where
-  pub ready : Readyable n ts hs w
+pub record Plannable (n : ℕ) (ts hs from to why w : List ℕ) : Type 0 where
+  pub ready : Readyable (map-of n (length ts)) ts hs w
   pub from-room : n ≤ length from
   pub to-room : n ≤ length to
   pub why-room : n ≤ length why
@@ -39,9 +42,9 @@ part-is : (f : Link → ℕ) (ls : List Link) (w : List ℕ) (at m : ℕ) → m 
     part w at m ≡ map f ls
 part-is f ls w at m e h = ap (λ (k : ℕ). part w at k) (e ∙ sym (length-map ls f)) ∙ h
 
-module _ (n : ℕ) (ts hs w from to why : List ℕ) where
+module _ (n : ℕ) (ts hs from to why w : List ℕ) where
   -- without a trouble the input passes the tests
-  pub tests-plannable : plan-trouble n ts hs w from to why ≡ none → Plannable n ts hs w from to why
+  pub tests-plannable : plan-trouble n ts hs from to why w ≡ none → Plannable n ts hs from to why w
   unfolding plan-trouble
   tests-plannable e =
       let asked = asked-work n (length ts) in
@@ -59,16 +62,15 @@ module _ (n : ℕ) (ts hs w from to why : List ℕ) where
       let c = passes (ltb (length to) n) _ _ (b .1) in
       let d = passes (ltb (length why) n) _ _ (c .1) in
       record {
-        ready = record { fine = fine n ts hs (p .0); room = ltb-false (length w) asked (a .0) };
+        ready = record { fine = fine n ts hs (p .0); map = refl; room = ltb-false (length w) asked (a .0) };
         from-room = ltb-false (length from) n (b .0);
         to-room = ltb-false (length to) n (c .0);
         why-room = ltb-false (length why) n (d .0);
       }
 
   -- PLAN refuses
-  pub plan-refused : (t : Trouble) → plan-trouble n ts hs w from to why ≡ some (trouble-refusal t) →
-      Plan-promise n ts hs w from to why (PlanAnswer.Refused t) w from to why
-  unfolding plan-says plan-leaves-work plan-leaves-from plan-leaves-to plan-leaves-why
+  pub plan-refused : (t : Trouble) → plan-trouble n ts hs from to why w ≡ some t →
+      Plan-promise n ts hs from to why w from to why w (plan-told (PlanAnswer.Refused t))
   plan-refused t e =
       record {
         says = rw e refl;
@@ -79,30 +81,34 @@ module _ (n : ℕ) (ts hs w from to why : List ℕ) where
       }
 
   -- PLAN answers
-  pub plan-done : (w₁ w' from' to' why' : List ℕ) (r : Layout) → plan-trouble n ts hs w from to why ≡ none →
-      Laid-out w w₁ n ts hs r → from' ≡ over (part w₁ 0 (r .need)) from → to' ≡ over (part w₁ n (r .need)) to →
-      why' ≡ over (part w₁ (whys-at n) (r .need)) why → w' ≡ cleared (asked-work n (length ts)) w₁ →
-      Plan-promise n ts hs w from to why
-      (PlanAnswer.Done (r .sources) (r .sinks) (r .alone) (r .pairs) (r .need)) w' from' to' why'
-  unfolding plan-says plan-leaves-work plan-leaves-from plan-leaves-to plan-leaves-why
-  plan-done w₁ w' from' to' why' r e L f t y c =
+  pub plan-done : (m : Map) (w₁ from' to' why' w' : List ℕ) (l : Layout) (r : PlanAnswer) →
+      m ≡ map-of n (length ts) → plan-trouble n ts hs from to why w ≡ none → Laid-out w w₁ m ts hs l →
+      ((N : Network) → Figures N l → Carried N r) → from' ≡ over (part w₁ (m .links .from) (l .need)) from →
+      to' ≡ over (part w₁ (m .links .to) (l .need)) to → why' ≡ over (part w₁ (m .links .why) (l .need)) why →
+      w' ≡ cleared (m .asked) w₁ → Plan-promise n ts hs from to why w from' to' why' w' (plan-told r)
+  plan-done m w₁ from' to' why' w' l r made e D says f t y c =
+      let L : Laid-out w w₁ (map-of n (length ts)) ts hs l = rw made at D in
       let ls : List Link = plan (handed n ts hs) in
+      let asked : m .asked ≡ asked-work n (length ts) = ap (λ (x : Map). x .asked) made in
       record {
-        says = rw e (cc);
+        says = rw e (says (handed n ts hs) (L .figures));
         from-left =
             rw e
             (f
-            ∙ ap (λ (l : List ℕ). over l from)
-            (part-is (λ (l : Link). l .start) ls w₁ 0 (r .need) (L .links-are) (L .starts-held)));
+            ∙ ap (λ (xs : List ℕ). over xs from)
+            (part-is (λ (x : Link). x .start) ls w₁ (m .links .from) (l .need) (L .links-are)
+            (rw made (L .columns .starts-held))));
         to-left =
             rw e
             (t
-            ∙ ap (λ (l : List ℕ). over l to)
-            (part-is (λ (l : Link). l .end) ls w₁ n (r .need) (L .links-are) (L .ends-held)));
+            ∙ ap (λ (xs : List ℕ). over xs to)
+            (part-is (λ (x : Link). x .end) ls w₁ (m .links .to) (l .need) (L .links-are)
+            (rw made (L .columns .ends-held))));
         why-left =
             rw e
             (y
-            ∙ ap (λ (l : List ℕ). over l why)
-            (part-is (λ (l : Link). why-number (l .why)) ls w₁ (whys-at n) (r .need) (L .links-are) (L .whys-held)));
-        work-left = rw e (c ∙ cleared-back (asked-work n (length ts)) w w₁ (L .beyond));
+            ∙ ap (λ (xs : List ℕ). over xs why)
+            (part-is (λ (x : Link). why-number (x .why)) ls w₁ (m .links .why) (l .need) (L .links-are)
+            (rw made (L .columns .whys-held))));
+        work-left = rw e (rw asked at c ∙ cleared-back (asked-work n (length ts)) w w₁ (L .beyond));
       }

@@ -1,5 +1,4 @@
 -- What PLAN's promise means, from the theorems about the plan.
---   plan-outcomes-equal   any two outcomes that the promise allows are equal
 --   values N              s, t, q, p and the number of links, as an answer carries them
 --   told; from-is, to-is, why-is   what an answer carries; what each lent list holds afterwards
 --   put-out m fs ts       the arcs of the first m elements of two lists: the links as the call puts them out
@@ -8,7 +7,7 @@
 --   put-out-distinct      each joins two distinct zones
 --   put-out-none          a strong network gets no link, and the lent lists stay as they came
 --   same-skeleton-outputs networks with the same zones and the same skeleton get the same answer and the same links
--- All but the first speak of an input that has no trouble. Assumes nothing.
+-- All speak of an input that has no trouble. Assumes nothing.
 use mathlib.Core.Path.{_≡_, refl, sym, ap, ap₂, _∙_}
 use mathlib.Core.Logic.{_≢_}
 use mathlib.Core.Option.{none}
@@ -21,12 +20,11 @@ use Rattle.rules.specs.declared.PlanAnswer.{PlanAnswer}
 use Rattle.rules.specs.Lists.{over}
 use Rattle.rules.specs.Answers.{Told, done, plan-told}
 use Rattle.rules.specs.Network.{Arc, _⟶_, Network, added, Proper, Strong}
-use Rattle.rules.specs.Components.{sources, sinks, alone}
 use Rattle.rules.specs.Skeleton.{skeleton}
-use Rattle.rules.specs.Plan.{Link, link-arc, why-number, plan, plan-pairs, plan-need}
-use Rattle.rules.specs.Calls.{arcs-of, handed, plan-trouble, plan-says}
-use Rattle.rules.specs.Calls.{plan-leaves-from, plan-leaves-to, plan-leaves-why}
-use Rattle.tests.proofs.Fine.{fine-proper}
+use Rattle.rules.specs.Plan.{Link, link-arc, why-number, plan, plan-need, plan-values}
+use Rattle.rules.specs.Calls.{arcs-of, handed, plan-trouble}
+use Rattle.rules.specs.Promises.{Plan-promise}
+use Rattle.intake.proofs.Fine.{fine-proper}
 use Rattle.theory.proofs.Ground.Lists.{map-in}
 use Rattle.theory.proofs.Reaching.Reach.{strong-complete}
 use Rattle.theory.proofs.Reaching.Components.{names-zone}
@@ -35,21 +33,7 @@ use Rattle.theory.proofs.Planning.PlanStrong.{plan-of-strong, plan-strong}
 use Rattle.theory.proofs.Planning.PlanCount.{plan-length, plan-ends}
 use Rattle.theory.proofs.Planning.PlanSame.{SamePlan, plan-of-skeleton}
 use Rattle.theory.proofs.Files.AnswerLaws.{plan-told-once}
-use Rattle.plan.specs.Promise.{Plan-promise}
 use Rattle.plan.proofs.Answering.{tests-plannable}
-
--- any two outcomes of PLAN are equal: the answer, the work memory and the three lists
-pub plan-outcomes-equal : (n : ℕ) (ts hs w from to why : List ℕ) {a b : PlanAnswer}
-    {w₁ w₂ f₁ f₂ t₁ t₂ y₁ y₂ : List ℕ} → Plan-promise n ts hs w from to why a w₁ f₁ t₁ y₁ →
-    Plan-promise n ts hs w from to why b w₂ f₂ t₂ y₂ →
-    (a ≡ b) × (w₁ ≡ w₂) × (f₁ ≡ f₂) × (t₁ ≡ t₂) × (y₁ ≡ y₂)
-plan-outcomes-equal n ts hs w from to why {a} {b} p q = (
-  plan-told-once a b (p .says ∙ sym (q .says)),
-  p .work-left ∙ sym (q .work-left),
-  p .from-left ∙ sym (q .from-left),
-  p .to-left ∙ sym (q .to-left),
-  p .why-left ∙ sym (q .why-left),
-)
 
 -- the arcs of the first m elements of two lists
 abbrev pub put-out : ℕ → List ℕ → List ℕ → List Arc
@@ -68,16 +52,16 @@ front-of m xs l e = take-at xs (drop (length xs) l) m e
 
 -- what an answer carries
 abbrev pub values : Network → Told
-values M = done (length (sources M) ∷ length (sinks M) ∷ length (alone M) ∷ plan-pairs M ∷ plan-need M ∷ [])
+values M = done (plan-values M)
 
 -- an input without a trouble, and an outcome of the call for it
 module _
     (n : ℕ)
-    (ts hs w from to why : List ℕ)
-    (fine : plan-trouble n ts hs w from to why ≡ none)
+    (ts hs from to why w : List ℕ)
+    (fine : plan-trouble n ts hs from to why w ≡ none)
     (r : PlanAnswer)
-    (w' from' to' why' : List ℕ)
-    (P : Plan-promise n ts hs w from to why r w' from' to' why')
+    (from' to' why' w' : List ℕ)
+    (P : Plan-promise n ts hs from to why w from' to' why' w' (plan-told r))
   where
     -- the network that was handed in
     abbrev N : Network
@@ -85,24 +69,20 @@ module _
 
     -- it is proper
     proper : Proper N
-    proper = fine-proper n ts hs (tests-plannable n ts hs w from to why fine .ready .fine)
+    proper = fine-proper n ts hs (tests-plannable n ts hs from to why w fine .ready .fine)
 
     -- the answer carries s, t, q, p and the number of links
     pub told : plan-told r ≡ values N
-    unfolding plan-says
     told = rw fine at (P .says)
 
     -- the links' starts, ends and whys are put over what was lent
     pub from-is : from' ≡ over (map (λ (l : Link). l .start) (plan N)) from
-    unfolding plan-leaves-from
     from-is = rw fine at (P .from-left)
 
     pub to-is : to' ≡ over (map (λ (l : Link). l .end) (plan N)) to
-    unfolding plan-leaves-to
     to-is = rw fine at (P .to-left)
 
     pub why-is : why' ≡ over (map (λ (l : Link). why-number (l .why)) (plan N)) why
-    unfolding plan-leaves-why
     why-is = rw fine at (P .why-left)
 
     -- what the call puts out are the plan's links
@@ -156,28 +136,29 @@ unfolding handed
 zones-same n ts hs ts₂ hs₂ = refl
 
 -- networks with the same zones and the same skeleton get the same answer and the same links in the same lists
-pub same-skeleton-outputs : (n : ℕ) (ts hs w ts₂ hs₂ w₂ from to why : List ℕ) →
-    plan-trouble n ts hs w from to why ≡ none → plan-trouble n ts₂ hs₂ w₂ from to why ≡ none →
+pub same-skeleton-outputs : (n : ℕ) (ts hs w ts₂ hs₂ from to why w₂ : List ℕ) →
+    plan-trouble n ts hs from to why w ≡ none → plan-trouble n ts₂ hs₂ from to why w₂ ≡ none →
     skeleton (handed n ts hs) ≡ skeleton (handed n ts₂ hs₂) → (a b : PlanAnswer)
-    (u v f₁ f₂ t₁ t₂ y₁ y₂ : List ℕ) → Plan-promise n ts hs w from to why a u f₁ t₁ y₁ →
-    Plan-promise n ts₂ hs₂ w₂ from to why b v f₂ t₂ y₂ → (a ≡ b) × (f₁ ≡ f₂) × (t₁ ≡ t₂) × (y₁ ≡ y₂)
-same-skeleton-outputs n ts hs w ts₂ hs₂ w₂ from to why e f s a b u v f₁ f₂ t₁ t₂ y₁ y₂ P Q =
+    (u v f₁ f₂ t₁ t₂ y₁ y₂ : List ℕ) → Plan-promise n ts hs from to why w f₁ t₁ y₁ u (plan-told a) →
+    Plan-promise n ts₂ hs₂ from to why w₂ f₂ t₂ y₂ v (plan-told b) →
+    (a ≡ b) × (f₁ ≡ f₂) × (t₁ ≡ t₂) × (y₁ ≡ y₂)
+same-skeleton-outputs n ts hs w ts₂ hs₂ from to why w₂ e f s a b u v f₁ f₂ t₁ t₂ y₁ y₂ P Q =
     let S : SamePlan (handed n ts hs) (handed n ts₂ hs₂) =
-    plan-of-skeleton (proper n ts hs w from to why e a u f₁ t₁ y₁ P) (proper n ts₂ hs₂ w₂ from to why f b v f₂ t₂ y₂ Q)
+    plan-of-skeleton (proper n ts hs from to why w e a f₁ t₁ y₁ u P) (proper n ts₂ hs₂ from to why w₂ f b f₂ t₂ y₂ v Q)
     (zones-same n ts hs ts₂ hs₂) s
     in
     let links = S .same-plan in (
       plan-told-once a b
-          (told n ts hs w from to why e a u f₁ t₁ y₁ P
+          (told n ts hs from to why w e a f₁ t₁ y₁ u P
           ∙ values-same (handed n ts hs) (handed n ts₂ hs₂) S
-          ∙ sym (told n ts₂ hs₂ w₂ from to why f b v f₂ t₂ y₂ Q)),
-      from-is n ts hs w from to why e a u f₁ t₁ y₁ P
+          ∙ sym (told n ts₂ hs₂ from to why w₂ f b f₂ t₂ y₂ v Q)),
+      from-is n ts hs from to why w e a f₁ t₁ y₁ u P
           ∙ ap (λ (ls : List Link). over (map (λ (l : Link). l .start) ls) from) links
-          ∙ sym (from-is n ts₂ hs₂ w₂ from to why f b v f₂ t₂ y₂ Q),
-      to-is n ts hs w from to why e a u f₁ t₁ y₁ P
+          ∙ sym (from-is n ts₂ hs₂ from to why w₂ f b f₂ t₂ y₂ v Q),
+      to-is n ts hs from to why w e a f₁ t₁ y₁ u P
           ∙ ap (λ (ls : List Link). over (map (λ (l : Link). l .end) ls) to) links
-          ∙ sym (to-is n ts₂ hs₂ w₂ from to why f b v f₂ t₂ y₂ Q),
-      why-is n ts hs w from to why e a u f₁ t₁ y₁ P
+          ∙ sym (to-is n ts₂ hs₂ from to why w₂ f b f₂ t₂ y₂ v Q),
+      why-is n ts hs from to why w e a f₁ t₁ y₁ u P
           ∙ ap (λ (ls : List Link). over (map (λ (l : Link). why-number (l .why)) ls) why) links
-          ∙ sym (why-is n ts₂ hs₂ w₂ from to why f b v f₂ t₂ y₂ Q),
+          ∙ sym (why-is n ts₂ hs₂ from to why w₂ f b f₂ t₂ y₂ v Q),
     )

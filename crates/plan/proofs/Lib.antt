@@ -1,9 +1,3 @@
--- Laws of the plan in work memory.
-pub mod Few
-pub mod Sides
-pub mod Surveying
-pub mod Connecting
-pub mod Laying
-pub mod Rooms
+-- Laws of PLAN's answer, and of what its promise means.
 pub mod Answering
 pub mod Corollaries

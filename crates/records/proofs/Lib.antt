@@ -1,7 +1,5 @@
--- Laws of filling records from work memory, the steps of the two walks, and what the promise means.
-pub mod FillLaws
-pub mod Answering
-pub mod Lending
-pub mod CountedLoop
+-- The steps of the two walks, and what the promise means.
+pub mod Turns
 pub mod Calls
+pub mod Contents
 pub mod Outcomes

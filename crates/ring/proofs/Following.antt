@@ -22,7 +22,7 @@ use Rattle.theory.proofs.Reaching.Components.{
   name-name,
 }
 use Rattle.theory.proofs.Skeletons.SkeletonLaws.{Follows, follows-true, true-follows}
-use Rattle.rows.proofs.Zeros.{below?}
+use Rattle.arranged.proofs.Zeros.{below?}
 use Rattle.crossings.specs.Named.{name-at, Named}
 use Rattle.crossings.proofs.NamedLaws.{zone-in, in-zone, named-proper}
 use Rattle.ring.specs.Ring.{First-above, Ring-next}

@@ -4,11 +4,11 @@
 use mathlib.Core.Path.{refl}
 use mathlib.Core.Logic.{inl}
 use mathlib.Core.List.{List}
-use Prim.Native.Nat.{ℕ, _+_, _*_, _≤_, _<_}
+use Prim.Native.Nat.{ℕ, _+_, _≤_, _<_}
 use native.Mathlib.Omega.{arith}
 use lib.ListN.{length, set, length-set}
 use lib.Seq.{drop-set-lt}
-use Rattle.crossings.specs.Named.{name-at}
+use Rattle.crossings.specs.Named.{name-at, chosen-at, tops-at}
 use Rattle.crossings.proofs.MarkSet.{set-marked, set-kept, set-was}
 use Rattle.ring.specs.Ring.{Ringable, Ring-next, Ringed}
 
@@ -29,18 +29,18 @@ module _ (w : List ℕ) (n a r : ℕ) (R : Ringable w n a) (ring : Ring-next (na
   -- the mark of what follows is set
   module _ (low : r < n) where
     -- it lies in the memory
-    inside : 3 * n + r < length w
+    inside : chosen-at n + r < length w
     inside = omega (arith, R .fits)
 
     -- the mark is set, and the others are as they were
-    pub ringed-set : Ringed w (set w (3 * n + r) 1) n a
+    pub ringed-set : Ringed w (set w (chosen-at n + r) 1) n a
     ringed-set =
         record {
           next = r;
           ring = ring;
-          long = length-set w (3 * n + r) 1;
-          high = drop-set-lt (4 * n) w (3 * n + r) 1 (omega arith);
-          old = λ v h m. set-kept w (3 * n) r inside v m;
-          new = λ v h m. set-was w (3 * n) r inside v m;
-          own = λ l. set-marked w (3 * n) r inside r refl;
+          long = length-set w (chosen-at n + r) 1;
+          high = drop-set-lt (tops-at n) w (chosen-at n + r) 1 (omega arith);
+          old = λ v h m. set-kept w (chosen-at n) r inside v m;
+          new = λ v h m. set-was w (chosen-at n) r inside v m;
+          own = λ l. set-marked w (chosen-at n) r inside r refl;
         }

@@ -1,18 +1,24 @@
 // The arcs of a skeleton inside a component, in lent work memory: the zones of a component make a ring, each followed
 // by the next one above it, and the highest by the lowest. The zones have their names in the memory.
-ghost use Prim.Native.Nat.{_*_, _<_};
+ghost use mathlib.Core.Path.{_≡_};
+ghost use Prim.Native.Nat.{_<_};
+ghost use Rattle.workmap.specs.Map.{map-of};
 ghost use Rattle.crossings.specs.Named.{name-at};
 ghost use Rattle.ring.specs.Ring.{Ringable, First-above, Ring-next, Ringed};
 use memory::wide;
+use workmap::Map;
 
 // The first zone above `a` with the name, or the zone count where there is none.
-fn next_above(work: &[u16], zones: usize, a: usize, name: u16) -> usize
-    requires { ⌜ Ringable (now work) zones a ⌝ }
-    ensures { λ r. ⌜ First-above (name-at (now (work .entry)) zones) zones a name r ⌝ }
+fn next_above(work: &[u16], m: Map, a: usize, name: u16) -> usize
+    requires { ⌜ Ringable (now work) (m .zones) a ⌝ }
+    requires { ⌜ m ≡ map-of (m .zones) (m .arcs) ⌝ }
+    ensures { λ r. ⌜ First-above (name-at (now (work .entry)) (m .zones)) (m .zones) a name r ⌝ }
 {
+    let zones = m.zones;
+    let names = m.names.names;
     let mut b = a + 1;
     while b < zones {
-        if work[5 * zones + b] == name {
+        if work[names + b] == name {
             return b;
         }
         b += 1;
@@ -21,12 +27,15 @@ fn next_above(work: &[u16], zones: usize, a: usize, name: u16) -> usize
 }
 
 // The zone that follows `a` in the ring of its component, or the zone count where the component has no other zone.
-fn next_in_ring(work: &[u16], zones: usize, a: usize) -> usize
-    requires { ⌜ Ringable (now work) zones a ⌝ }
-    ensures { λ r. ⌜ Ring-next (name-at (now (work .entry)) zones) zones a r ⌝ }
+fn next_in_ring(work: &[u16], m: Map, a: usize) -> usize
+    requires { ⌜ Ringable (now work) (m .zones) a ⌝ }
+    requires { ⌜ m ≡ map-of (m .zones) (m .arcs) ⌝ }
+    ensures { λ r. ⌜ Ring-next (name-at (now (work .entry)) (m .zones)) (m .zones) a r ⌝ }
 {
-    let name = work[5 * zones + a];
-    let b = next_above(work, zones, a, name);
+    let zones = m.zones;
+    let names = m.names.names;
+    let name = work[names + a];
+    let b = next_above(work, m, a, name);
     if b < zones {
         return b;
     }
@@ -38,13 +47,16 @@ fn next_in_ring(work: &[u16], zones: usize, a: usize) -> usize
 }
 
 // Marks the zone that follows `a` in the ring of its component.
-pub fn mark_ring(work: &mut [u16], zones: usize, a: usize)
-    requires { ⌜ Ringable (now work) zones a ⌝ }
-    ensures { λ r. ⌜ Ringed (now (work .entry)) (now (work .exit)) zones a ⌝ }
+pub fn mark_ring(work: &mut [u16], m: Map, a: usize)
+    requires { ⌜ Ringable (now work) (m .zones) a ⌝ }
+    requires { ⌜ m ≡ map-of (m .zones) (m .arcs) ⌝ }
+    ensures { λ r. ⌜ Ringed (now (work .entry)) (now (work .exit)) (m .zones) a ⌝ }
 {
-    let b = next_in_ring(work, zones, a);
+    let zones = m.zones;
+    let chosen = m.cross.chosen;
+    let b = next_in_ring(work, m, a);
     if zones <= b {
         return;
     }
-    work[3 * zones + b] = 1;
+    work[chosen + b] = 1;
 }

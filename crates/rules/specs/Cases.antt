@@ -12,7 +12,7 @@ use mathlib.Core.List.{List, [], _∷_, _++_, map}
 use mathlib.Core.Bool.{Bool, true, false, _&&_}
 use lib.ListN.{length, replicate}
 use lib.Dec.{eqb}
-use Rattle.rules.specs.declared.Kind.the-variants.{
+use Rattle.rules.specs.declared.TroubleKind.the-variants.{
   Short,
   Long,
   Loose,
@@ -24,14 +24,14 @@ use Rattle.rules.specs.declared.Kind.the-variants.{
   Room,
   Pair,
 }
-use Rattle.rules.specs.Lists.{run, every}
-use Rattle.rules.specs.Answers.{kind-number}
+use Rattle.rules.specs.Lists.{span, every}
+use Rattle.rules.specs.Answers.{trouble-number}
 use Rattle.rules.specs.Network.{Arc, _⟶_, Network, network-of}
 use Rattle.rules.specs.Components.{sources, sinks, alone}
 use Rattle.rules.specs.Skeleton.{skeleton}
-use Rattle.rules.specs.Plan.{Link, why-number, plan, plan-pairs, plan-need}
-use Rattle.rules.specs.File.{file-bytes}
-use Rattle.rules.specs.Calls.{read-says}
+use Rattle.rules.specs.Plan.{Link, why-number, plan, plan-pairs, plan-need, plan-values}
+use Rattle.rules.specs.File.{file-bytes, file-at}
+use Rattle.rules.specs.Calls.{found-says}
 
 -- a row: document 01's letter (45, a dash, where it has none), what is asked for (0 the plan, 1 the skeleton, 2
 -- reading a file), the zone count, the arcs or the file's bytes, the links or the bytes of the skeleton's file, and
@@ -158,7 +158,7 @@ unfolding plan sources sinks alone plan-pairs plan-need
 plan-right r =
     let N = row-network r in
     same-list (map link-code (plan N)) (r .output)
-    && same-list (length (sources N) ∷ length (sinks N) ∷ length (alone N) ∷ plan-pairs N ∷ plan-need N ∷ []) (r .told)
+    && same-list (plan-values N) (r .told)
 
 -- the skeleton's file has the bytes, and the skeleton the arc count
 skeleton-right : Row → Bool
@@ -170,9 +170,9 @@ skeleton-right r =
 
 -- reading the file is refused with the number, at the place
 file-right : Row → Bool
-unfolding read-says
+unfolding file-at
 file-right r =
-    let t = read-says (r .input) [] [] in
+    let t = found-says (file-at (r .input) 0 0) in
     same-list (t .number ∷ t .place ∷ []) (r .told)
 
 -- whether the definitions give what the row wants
@@ -191,7 +191,7 @@ cases-right = refl
 
 -- the kinds of refusal, in the order of document 01's table, are numbered from 1 on
 pub kinds-right :
-    map kind-number (Short ∷ Long ∷ Loose ∷ Zones ∷ Arcs ∷ Range ∷ SelfArc ∷ Extra ∷ Room ∷ Pair ∷ []) ≡ run 1 10
+    map trouble-number (Short ∷ Long ∷ Loose ∷ Zones ∷ Arcs ∷ Range ∷ SelfArc ∷ Extra ∷ Room ∷ Pair ∷ []) ≡ span 1 10
 kinds-right = refl
 
 -- a list with zeros after it, n in all

@@ -1,7 +1,7 @@
 -- Components, their names, and their kinds (document 01, "Components and kinds").
 --   together N a b   a and b are in one component
 --   name N z         the name of z's component;   names N   the names of all components, ascending
---   entered, left    an arc comes into the component from another; an arc goes out of it to another
+--   entered, exited    an arc comes into the component from another; an arc goes out of it to another
 --   sources, sinks, alone, inner   the names of each kind, ascending
 use Prim.Native.Nat.{ℕ}
 use mathlib.Core.List.{List}
@@ -37,26 +37,26 @@ module _ (N : Network) where
   entered c = any (λ (e : Arc). together (e .head) c && not (together (e .tail) c)) (N .arcs)
 
   -- some arc goes out of the component of c to another
-  unfoldable pub left : ℕ → Bool
+  unfoldable pub exited : ℕ → Bool
   unfolding together
-  left c = any (λ (e : Arc). together (e .tail) c && not (together (e .head) c)) (N .arcs)
+  exited c = any (λ (e : Arc). together (e .tail) c && not (together (e .head) c)) (N .arcs)
 
   -- arcs out and none in
   unfoldable pub sources : List ℕ
-  unfolding names entered left
-  sources = keep (λ c. left c && not (entered c)) names
+  unfolding names entered exited
+  sources = keep (λ c. exited c && not (entered c)) names
 
   -- arcs in and none out
   unfoldable pub sinks : List ℕ
-  unfolding names entered left
-  sinks = keep (λ c. entered c && not (left c)) names
+  unfolding names entered exited
+  sinks = keep (λ c. entered c && not (exited c)) names
 
   -- neither
   unfoldable pub alone : List ℕ
-  unfolding names entered left
-  alone = keep (λ c. not (entered c) && not (left c)) names
+  unfolding names entered exited
+  alone = keep (λ c. not (entered c) && not (exited c)) names
 
   -- both
   unfoldable pub inner : List ℕ
-  unfolding names entered left
-  inner = keep (λ c. entered c && left c) names
+  unfolding names entered exited
+  inner = keep (λ c. entered c && exited c) names

@@ -10,8 +10,10 @@ use mathlib.Core.List.{List, [], _∷_, _++_, List·Memᴰ as In}
 use mathlib.Core.Bool.{Bool, _||_}
 use lib.ListN.{length}
 use lib.Dec.{ltb, leb, eqb}
+use Rattle.rules.specs.declared.TroubleKind.the-variants.{Zones, Arcs, Range, SelfArc, Extra, Room}
+use Rattle.rules.specs.Answers.{refusal}
 use Rattle.rules.specs.Network.{Arc, _⟶_}
-use Rattle.rules.specs.Number.{number-bytes, Reading, got, then, refusal, unless, number-at}
+use Rattle.rules.specs.Number.{number-bytes, Reading, got, then, unless, number-at}
 
 -- a network as a file holds it: the zone count and the arcs
 pub record Given : Type 0 where
@@ -43,25 +45,26 @@ unfoldable pub file-bytes : Given → List ℕ
 unfolding number-bytes arcs-bytes
 file-bytes g = number-bytes (g .zones) ++ (number-bytes (length (g .arcs)) ++ arcs-bytes (g .arcs))
 
--- 4 ZONES: zone count 0 or above 1,024
+-- ZONES: zone count 0 or above 1,024
 abbrev pub zones-bad : ℕ → Bool
 zones-bad n = eqb n 0 || ltb 1024 n
 
--- 5 ARCS: arc count above 4,096
+-- ARCS: arc count above 4,096
 abbrev pub arcs-bad : ℕ → Bool
 arcs-bad m = ltb 4096 m
 
 module _ (s : List ℕ) where
-  -- a zone number: 6 RANGE at or above the zone count n
+  -- a zone number: RANGE at or above the zone count n
   unfoldable pub zone-at : ℕ → ℕ → Reading ℕ
   unfolding number-at
-  zone-at n at = then (number-at s at) λ z next. unless (leb n z) (refusal 6 at) (got z next)
+  zone-at n at = then (number-at s at) λ z next. unless (leb n z) (refusal Range at) (got z next)
 
-  -- an arc: its tail, its head, and 7 SELF at the head
+  -- an arc: its tail, its head, and SELF at the head
   unfoldable pub arc-at : ℕ → ℕ → Reading Arc
   unfolding zone-at
   arc-at n at =
-      then (zone-at n at) λ t mid. then (zone-at n mid) λ h next. unless (eqb t h) (refusal 7 mid) (got (t ⟶ h) next)
+      then (zone-at n at) λ t mid.
+      then (zone-at n mid) λ h next. unless (eqb t h) (refusal SelfArc mid) (got (t ⟶ h) next)
 
   -- m arcs, one after the other
   unfoldable pub arcs-at : ℕ → ℕ → ℕ → Reading (List Arc)
@@ -69,23 +72,23 @@ module _ (s : List ℕ) where
   arcs-at n zero at = got [] at
   arcs-at n (suc m) at = then (arc-at n at) λ e next. then (arcs-at n m next) λ es end. got (e ∷ es) end
 
-  -- the arcs of a file with zone count n and arc count m, and nothing after them: 8 EXTRA at the first extra byte
+  -- the arcs of a file with zone count n and arc count m, and nothing after them: EXTRA at the first extra byte
   unfoldable pub body-at : ℕ → ℕ → ℕ → Reading Given
   unfolding arcs-at
   body-at n m at =
       then (arcs-at n m at) λ es end.
-      unless (ltb end (length s)) (refusal 8 end) (got (record { zones = n; arcs = es }) end)
+      unless (ltb end (length s)) (refusal Extra end) (got (record { zones = n; arcs = es }) end)
 
   module _ (tails-room heads-room : ℕ) where
-    -- the arc count, and what follows it: 5 ARCS, then 9 ROOM for a short output list, both at the arc count
+    -- the arc count, and what follows it: ARCS, then ROOM for a short output list, both at the arc count
     unfoldable pub counted-at : ℕ → ℕ → Reading Given
     unfolding number-at body-at
     counted-at n at =
         then (number-at s at) λ m next.
-        unless (arcs-bad m) (refusal 5 at)
-        (unless (ltb tails-room m || ltb heads-room m) (refusal 9 at) (body-at n m next))
+        unless (arcs-bad m) (refusal Arcs at)
+        (unless (ltb tails-room m || ltb heads-room m) (refusal Room at) (body-at n m next))
 
-    -- the whole file: 4 ZONES at the zone count
+    -- the whole file: ZONES at the zone count
     unfoldable pub file-at : Reading Given
     unfolding number-at counted-at
-    file-at = then (number-at s 0) λ n next. unless (zones-bad n) (refusal 4 0) (counted-at n next)
+    file-at = then (number-at s 0) λ n next. unless (zones-bad n) (refusal Zones 0) (counted-at n next)

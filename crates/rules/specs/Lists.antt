@@ -1,5 +1,5 @@
 -- Lists and tests that the rules are written with.
---   run a n       n numbers in a row, from a on
+--   span a n       n numbers in a row, from a on
 --   keep p xs     the elements that pass the test p, in their order
 --   any p xs      whether some element passes;  every p xs   whether all do
 --   first p d xs  the first element that passes, d where none does
@@ -12,9 +12,9 @@ use mathlib.Core.Bool.{Bool, true, false}
 use lib.ListN.{length, drop, replicate}
 
 -- n numbers in a row, from a on
-abbrev pub run : ℕ → ℕ → List ℕ
-run a zero = []
-run a (suc n) = a ∷ run (suc a) n
+abbrev pub span : ℕ → ℕ → List ℕ
+span a zero = []
+span a (suc n) = a ∷ span (suc a) n
 
 -- the elements that pass the test, in their order
 abbrev pub keep : {A : Type 0} → (A → Bool) → List A → List A
@@ -37,7 +37,7 @@ first p d [] = d
 first p d (x ∷ xs) = elim (p x) [ true ↦ x | false ↦ first p d xs ]
 
 -- what a lent list holds after a result was put into it: the result, and past it what was there
-abbrev pub over : List ℕ → List ℕ → List ℕ
+abbrev pub over : {A : Type 0} → List A → List A → List A
 over new old = new ++ drop (length new) old
 
 -- what lent work memory holds after a call that asked for k elements: k zeros, and past them what was there

@@ -1,5 +1,5 @@
 -- A network, and which zone reaches which (document 01, "What the tool covers").
---   a ⟶ b           the arc from zone a to zone b
+--   a ⟶ b           the arc from zone a to zone b;   tails-of, heads-of   the tails and the heads of arcs
 --   Network         zones, ascending, and arcs, in any order and with repeats
 --   network-of n es document 01's network: every number below n is a zone
 --   added N es      the network with more arcs
@@ -10,10 +10,10 @@
 -- or goes to k and on from k with its inner zones among ks.
 use Prim.Native.Nat.{ℕ, _<_}
 use mathlib.Core.Path.{_≡_}
-use mathlib.Core.List.{List, [], _∷_, _++_, List·Memᴰ as In}
+use mathlib.Core.List.{List, [], _∷_, _++_, map, List·Memᴰ as In}
 use mathlib.Core.Bool.{Bool, true, false, _&&_}
 use lib.Dec.{eqb}
-use Rattle.rules.specs.Lists.{run, any, every}
+use Rattle.rules.specs.Lists.{span, any, every}
 
 -- an arc: water goes from its tail to its head
 pub record Arc : Type 0 where
@@ -24,6 +24,13 @@ infix 40 _⟶_
 abbrev pub _⟶_ : ℕ → ℕ → Arc
 a ⟶ b = record { tail = a; head = b }
 
+-- the tails of arcs, and the heads
+abbrev pub arc-tails : List Arc → List ℕ
+arc-tails es = map (λ (e : Arc). e .tail) es
+
+abbrev pub arc-heads : List Arc → List ℕ
+arc-heads es = map (λ (e : Arc). e .head) es
+
 -- a network: its zones, ascending, and its arcs, in any order and with repeats
 pub record Network : Type 0 where
   pub zones : List ℕ
@@ -31,7 +38,7 @@ pub record Network : Type 0 where
 
 -- document 01's network: zones are numbered from 0, and every number below the zone count is a zone
 abbrev pub network-of : ℕ → List Arc → Network
-network-of n es = record { zones = run 0 n; arcs = es }
+network-of n es = record { zones = span 0 n; arcs = es }
 
 -- the network with more arcs
 abbrev pub added : Network → List Arc → Network

@@ -3,13 +3,15 @@
 --   Reading           what reading at a place finds: a value and the place after it, or the first trouble
 --   number-at s at    reading the number at a place of the bytes s
 -- A byte 0 to 127 ends a number, 128 to 255 says that another group follows. Each group asks for a byte of its own, so
--- a number is tested for 1 SHORT, 2 LONG and 3 LOOSE group by group, and at most one of the three can hold.
+-- a number is tested for SHORT, LONG and LOOSE group by group, and at most one of the three can hold.
 use Prim.Native.Nat.{ℕ, _+_, _-_, _*_, _/_, _%_}
 use mathlib.Core.List.{List, [], _∷_}
 use mathlib.Core.Bool.{Bool, cond}
 use lib.ListN.{length, getD}
 use lib.Dec.{ltb, leb, eqb}
-use Rattle.rules.specs.Answers.{Refusal}
+use Rattle.rules.specs.declared.TroubleKind.the-variants.{Short, Long, Loose}
+use Rattle.rules.specs.declared.Trouble.{Trouble}
+use Rattle.rules.specs.Answers.{refusal}
 
 -- the bytes of a number: one, two or three groups, and the last of several is not zero
 unfoldable pub number-bytes : ℕ → List ℕ
@@ -21,33 +23,29 @@ number-bytes n =
 -- a value that was read and the place after it, or the first trouble
 pub data Reading (A : Type 0) : Type 0 where
   got : A → ℕ → Reading A
-  bad : Refusal → Reading A
+  bad : Trouble → Reading A
 
 -- reads on after what was read; a trouble stays
 abbrev pub then : {A B : Type 0} → Reading A → (A → ℕ → Reading B) → Reading B
 then (got x at) f = f x at
 then (bad t) f = bad t
 
--- the refusal of a number at a place
-abbrev pub refusal : ℕ → ℕ → Refusal
-refusal k at = record { number = k; place = at }
-
 -- refuses where a test holds, and reads on where it does not
-abbrev pub unless : {A : Type 0} → Bool → Refusal → Reading A → Reading A
+abbrev pub unless : {A : Type 0} → Bool → Trouble → Reading A → Reading A
 unless b t r = cond b (bad t) r
 
 module _ (s : List ℕ) (at : ℕ) where
-  -- 1 SHORT: the bytes end inside a number, or before a number that is due; placed at the length of the input
-  abbrev pub short : Refusal
-  short = refusal 1 (length s)
+  -- SHORT: the bytes end inside a number, or before a number that is due; placed at the length of the input
+  abbrev pub short : Trouble
+  short = refusal Short (length s)
 
-  -- 2 LONG: a third group says that another follows; placed at the number's first byte
-  abbrev pub long : Refusal
-  long = refusal 2 at
+  -- LONG: a third group says that another follows; placed at the number's first byte
+  abbrev pub long : Trouble
+  long = refusal Long at
 
-  -- 3 LOOSE: the last of several groups is zero; placed at the number's first byte
-  abbrev pub loose : Refusal
-  loose = refusal 3 at
+  -- LOOSE: the last of several groups is zero; placed at the number's first byte
+  abbrev pub loose : Trouble
+  loose = refusal Loose at
 
   -- the third group, after two that are worth `low`
   unfoldable pub third-group : ℕ → Reading ℕ

@@ -5,13 +5,17 @@
 --   links o xs        the links that an ordering gives, with xs the components alone
 --   upright N         the network on which the rule runs: N, or N turned round where it has more sources than sinks
 --   with-links N ls   the network with the arcs of the links ls added
---   plan N            the plan;   plan-pairs N   p;   plan-need N   the number of links that the answer carries
+--   plan N            the plan;   plan-pairs N   p;   plan-need N   the number of links
+--   link-starts, link-ends, link-whys, record-of, plan-values   links and counts as a call hands them out
 use Prim.Native.Nat.{ℕ, _+_, max}
 use mathlib.Core.List.{List, [], _∷_, _++_, map}
 use mathlib.Core.Option.{Option, none, some}
 use mathlib.Core.Bool.{Bool, true, false}
 use lib.Dec.{leb}
 use lib.ListN.{length, drop}
+use Rattle.rules.specs.declared.Why.{Why as RecordWhy}
+use Rattle.rules.specs.declared.Why.the-variants.{Ring, Chain, Back}
+use Rattle.rules.specs.declared.Link.{Link as RecordLink}
 use Rattle.rules.specs.Network.{Arc, _⟶_, Network, added, reaches, strong}
 use Rattle.rules.specs.Components.{sources, sinks, alone}
 
@@ -78,6 +82,26 @@ pub record Link : Type 0 where
 -- the arc that a link is
 abbrev pub link-arc : Link → Arc
 link-arc l = l .start ⟶ l .end
+
+-- the starts of links, the ends, and the numbers of the whys
+abbrev pub link-starts : List Link → List ℕ
+link-starts ls = map (λ (l : Link). l .start) ls
+
+abbrev pub link-ends : List Link → List ℕ
+link-ends ls = map (λ (l : Link). l .end) ls
+
+abbrev pub link-whys : List Link → List ℕ
+link-whys ls = map (λ (l : Link). why-number (l .why)) ls
+
+-- the why of a link, as a record has it
+abbrev pub why-of : Why → RecordWhy
+why-of ring = Ring
+why-of chain = Chain
+why-of back = Back
+
+-- the record of a link
+abbrev pub record-of : Link → RecordLink
+record-of l = record { from = l .start; to = l .end; why = why-of (l .why) }
 
 -- the network with the links added
 abbrev pub with-links : Network → List Link → Network
@@ -179,3 +203,7 @@ plan-need N =
       | true ↦ 0
       | false ↦ max (length (sources N)) (length (sinks N)) + length (alone N)
     ]
+
+-- what an answer carries: s, t, q, p, and the number of links
+abbrev pub plan-values : Network → List ℕ
+plan-values N = length (sources N) ∷ length (sinks N) ∷ length (alone N) ∷ plan-pairs N ∷ plan-need N ∷ []

@@ -11,7 +11,8 @@ use mathlib.Core.List.{List, [], _∷_, _++_}
 use mathlib.Core.Bool.{true, false}
 use lib.ListN.{length}
 use lib.Dec.{ltb}
-use Rattle.rules.specs.Answers.{Refusal}
+use Rattle.rules.specs.declared.Trouble.{Trouble}
+use Rattle.rules.specs.Answers.{trouble-number}
 use Rattle.rules.specs.Network.{Network, network-of}
 use Rattle.rules.specs.Components.{sources, sinks, alone}
 use Rattle.rules.specs.Plan.{Why, Link, plan, plan-pairs, plan-need}
@@ -59,9 +60,10 @@ plan-lines g =
     ++ (link-lines (plan N) ++ word "done\n")))))))))))))))
 
 -- the one line of a refusal
-unfoldable pub refusal-line : Refusal → List ℕ
+unfoldable pub refusal-line : Trouble → List ℕ
 unfolding word decimal
-refusal-line t = word "refused " ++ (decimal (t .number) ++ (word " at " ++ (decimal (t .place) ++ word "\n")))
+refusal-line t =
+    word "refused " ++ (decimal (trouble-number (t .kind)) ++ (word " at " ++ (decimal (t .place) ++ word "\n")))
 
 -- all that is printed for the bytes s: linkplan lends the reading lists of 4,096 elements, so that there is always
 -- room

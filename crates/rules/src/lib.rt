@@ -1,11 +1,12 @@
-// What the calls answer: the kinds of refusal, a refusal with its place, and one answer for each of the six calls.
+// What the calls answer: the kinds of refusal, a refusal with its place, one answer for each of the six calls, and a
+// link as a record.
 // No algorithm is here. specs/ has document 01's rules as definitions that compute, and specs/Answers.antt sets out
 // the document's number, place and values for every case of every answer.
 ghost use mathlib.Core.Path.{_≡_};
-ghost use Rattle.rules.specs.Answers.{kind-number};
+ghost use Rattle.rules.specs.Answers.{trouble-number};
 
 // The kinds of refusal of document 01's table, 1 to 10. 0 is DONE, and is no refusal.
-pub enum Kind {
+pub enum TroubleKind {
     Short,
     Long,
     Loose,
@@ -19,26 +20,26 @@ pub enum Kind {
 }
 
 // The number of a kind of refusal.
-pub fn kind_number(kind: Kind) -> usize
-    ensures { λ r. ⌜ r ≡ kind-number kind ⌝ }
+pub fn trouble_number(kind: TroubleKind) -> usize
+    ensures { λ r. ⌜ r ≡ trouble-number kind ⌝ }
 {
     match kind {
-        Kind::Short => 1,
-        Kind::Long => 2,
-        Kind::Loose => 3,
-        Kind::Zones => 4,
-        Kind::Arcs => 5,
-        Kind::Range => 6,
-        Kind::SelfArc => 7,
-        Kind::Extra => 8,
-        Kind::Room => 9,
-        Kind::Pair => 10,
+        TroubleKind::Short => 1,
+        TroubleKind::Long => 2,
+        TroubleKind::Loose => 3,
+        TroubleKind::Zones => 4,
+        TroubleKind::Arcs => 5,
+        TroubleKind::Range => 6,
+        TroubleKind::SelfArc => 7,
+        TroubleKind::Extra => 8,
+        TroubleKind::Room => 9,
+        TroubleKind::Pair => 10,
     }
 }
 
 // A refusal: its kind and its place.
 pub struct Trouble {
-    pub kind: Kind,
+    pub kind: TroubleKind,
     pub place: usize,
 }
 
@@ -82,4 +83,18 @@ pub enum PlanAnswer {
         need: usize,
     },
     Refused(Trouble),
+}
+
+// Why a link is there.
+pub enum Why {
+    Ring,
+    Chain,
+    Back,
+}
+
+// A link as a record: from a zone, to a zone, and why.
+pub struct Link {
+    pub from: u16,
+    pub to: u16,
+    pub why: Why,
 }

@@ -7,8 +7,9 @@ use mathlib.Core.Path.{sym}
 use mathlib.Core.Logic.{⊎-elim}
 use mathlib.Core.List.{List}
 use Prim.Native.Nat.{ℕ, _<_}
-use Rattle.rows.specs.Rows.{Rows, Sound, Entry, Run, here, further, rows-of}
-use Rattle.rows.specs.Marks.{Marked}
+use Rattle.arranged.specs.Rows.{Rows, Sound, Entry, Run, here, further, rows-of}
+use Rattle.arranged.specs.Marks.{Marked}
+use Rattle.workmap.specs.Map.{row-places, search-places}
 use Rattle.search.specs.Marking.{Clear, Closed, Searched}
 
 -- a run that begins at a mark never leaves closed marks
@@ -24,10 +25,11 @@ closed-run S w marks C h m (further {b = b} p e) =
 
 module _ (w : List ℕ) (zones starts rows marks : ℕ) (clear : Clear w marks zones) where
   -- clear marks are closed
-  pub clear-closed : Closed (rows-of w zones starts rows) w marks
+  pub clear-closed : Closed (rows-of w (row-places zones starts rows)) w marks
   clear-closed v h m = absurd (m (clear v h))
 
   -- after a search from clear marks a run leads to whatever has a mark
-  pub searched-clear : (w' : List ℕ) (from stack : ℕ) → Searched w w' zones starts rows from marks stack →
-      (v : ℕ) → v < zones → Marked w' marks v → Run (Entry (rows-of w zones starts rows)) from v
+  pub searched-clear : (w' : List ℕ) (from stack : ℕ) → Searched w w' (row-places zones starts rows)
+      (search-places marks stack) from →
+      (v : ℕ) → v < zones → Marked w' marks v → Run (Entry (rows-of w (row-places zones starts rows))) from v
   searched-clear w' from stack S v h m = ⊎-elim (λ o. absurd (o (clear v h))) (λ r. r) (S .sound v h m)

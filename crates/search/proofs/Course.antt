@@ -1,50 +1,35 @@
--- The course of a search: its begin, one zone taken off the stack, and its end.
---   begun        one mark and one zone on the stack
---   turn         a zone is taken off the stack and its row visited
---   closed-end   the stack is empty: the marks are closed
---   searched     so what a run of entries leads to has a mark
--- A marked zone stands on the stack, or its whole row has marks. With the stack empty the marks are closed under
--- entries, so a run that begins at a mark never leaves them.
--- Assumes nothing.
-use mathlib.Core.Path.{_≡_, sym, ap, _∙_}
-use mathlib.Core.Logic.{_⊎_, inl, inr, ⊎-elim, _≢_}
+-- The course of a search: its begin, one row of the queue, and its end.
+--   laid-same              equal rows are laid alike in memories of one length
+--   begun                  the start has its mark and stands on the queue
+--   head-.., spreading-next   the row of the zone at `head` is visited
+--   spread-ended, spread-same    the queue is gone through: the marks are closed; or the start had a mark
+--   spreadable-one, searched     the search with the mark 1 and an empty queue
+-- A marked zone had its mark before, or stands on the queue. Where all of the queue is gone through the marks are
+-- closed under entries, so a run that begins at a mark never leaves them. Assumes nothing.
+use mathlib.Core.Path.{_≡_, refl, sym, ap, _∙_}
+use mathlib.Core.Logic.{inl, inr}
 use mathlib.Core.List.{List}
-use Prim.Native.Nat.{ℕ, _+_, _-_, _≤_, _<_}
+use Prim.Native.Nat.{ℕ, _+_, _≤_, _<_}
 use native.Mathlib.Omega.{arith}
 use lib.ListN.{length, getD, drop, set}
-use Rattle.rows.specs.Rows.{Entry, Run, here, further, rows-of}
-use Rattle.rows.specs.Marks.{Marked}
-use Rattle.rows.proofs.Zeros.{same?, below?, zeros-some}
-use Rattle.search.specs.Marking.{
-  Kept,
-  Within,
-  Visitable,
-  Visited,
-  Laid,
-  Row-marked,
-  Closed,
-  Searching,
-  Searchable,
-  Searched,
-}
-use Rattle.search.proofs.Keeping.{
-  kept-same,
-  kept-then,
-  kept-marks,
-  kept-stack,
-  kept-rows,
-  head-at,
-  start-at,
-  stop-at,
-}
+use Rattle.workmap.specs.declared.RowsAt.{RowsAt}
+use Rattle.workmap.specs.declared.SearchAt.{SearchAt}
+use Rattle.workmap.specs.Map.{row-places, search-places}
+use Rattle.memory.specs.Regions.{cell}
+use Rattle.arranged.specs.Rows.{Entry, Run, further, here}
+use Rattle.arranged.specs.Marks.{Marked}
+use Rattle.arranged.proofs.Zeros.{same?, zeros-few}
+use Rattle.search.specs.Marking.{rows-in, Laid, Row-marked, Closed, Searchable, Searched, Spreadable, Spreading}
+use Rattle.search.specs.Marking.{Spread, Visitable, Visited}
+use Rattle.search.proofs.Keeping.{kept-rows, head-at, start-at, stop-at}
 use Rattle.search.proofs.Closed.{closed-run}
-use Rattle.search.proofs.Turn.{two-last, two-first, two-other, more}
+use Rattle.search.proofs.Join.{Join, spreading-none, spreading-join}
 
 -- equal rows are laid alike in memories of one length
-pub laid-same : (w w' : List ℕ) (zones starts rows marks stack : ℕ) →
-    length w' ≡ length w → drop starts w' ≡ drop starts w →
-    Laid w zones starts rows marks stack → Laid w' zones starts rows marks stack
-laid-same w w' zones starts rows marks stack long same L =
+pub laid-same : (w w' : List ℕ) (zones starts rows marks queue : ℕ) → length w' ≡ length w →
+    drop starts w' ≡ drop starts w → Laid w (row-places zones starts rows) (search-places marks queue) →
+    Laid w' (row-places zones starts rows) (search-places marks queue)
+laid-same w w' zones starts rows marks queue long same L =
     record {
       small = L .small;
       apart = L .apart;
@@ -55,268 +40,189 @@ laid-same w w' zones starts rows marks stack long same L =
       sound = rw same (L .sound);
     }
 
-module _ (w₀ w : List ℕ) (zones starts rows from marks stack top t : ℕ) (L : Laid w₀ zones starts rows marks stack)
-    (S : Searching w₀ w zones starts rows from marks stack top) (one-less : t + 1 ≡ top) where
+-- marks and queue lie in the memory
+pub laid-fits : {w : List ℕ} {R : RowsAt} {S : SearchAt} → Laid w R S →
+    (S .marks + R .zones ≤ length w) × (S .queue + R .zones ≤ length w)
+laid-fits L = (
+  omega (arith, L .apart, L .before, L .order, L .fits),
+  omega (arith, L .before, L .order, L .fits),
+)
+
+-- the start, which has no mark, gets one and stands on the queue
+module _ {w w' : List ℕ} {R : RowsAt} {S : SearchAt} {from x top : ℕ} (A : Spreadable w R S from x top)
+    (free : cell w (S .marks) from ≡ 0)
+    (made : w' ≡ set (set w (S .marks + from) x) (S .queue + top) from) where
+  -- the two stores
+  pub start-join : Join w w' S (R .zones) x top from
+  start-join =
+      record {
+        some = A .some;
+        apart = A .able .laid .apart;
+        fits = laid-fits (A .able .laid) .1;
+        zone = A .able .zone;
+        free = free;
+        room = A .room;
+        made = made;
+      }
+
+  -- the search has met it
+  pub begun : Spreading w w' R S from x top top (top + 1)
+  begun = spreading-join (spreading-none A) start-join (inl refl) here
+
+-- a search that has not gone through its queue, whose zone z at `head` has its row from a up to b
+module _ {v w : List ℕ} {R : RowsAt} {S : SearchAt} {from x top head tail : ℕ}
+    (G : Spreading v w R S from x top head tail) (more : head < tail) where
   -- the rows are as they were
-  pub rows-same : drop starts w ≡ drop starts w₀
-  rows-same = kept-rows w₀ w marks stack zones (S .kept) starts (L .before)
+  pub rows-same : drop (R .starts) w ≡ drop (R .starts) v
+  rows-same = kept-rows v w (S .marks) (S .queue) (R .zones) (G .kept) (R .starts) (G .able .able .laid .before)
 
   -- so the memory is laid out still
-  pub laid : Laid w zones starts rows marks stack
-  laid = laid-same w₀ w zones starts rows marks stack (S .kept .long) rows-same L
+  pub laid-now : Laid w R S
+  laid-now =
+      laid-same v w (R .zones) (R .starts) (R .rows) (S .marks) (S .queue) (G .kept .long) rows-same
+      (G .able .able .laid)
 
-  -- z is the zone on top of the stack, and its row stands from a up to b
-  module _ (z a b : ℕ) (is : getD w (stack + t) 0 ≡ z) (starts-here : a ≡ rows + getD w (starts + z) 0)
-      (stops-here : b ≡ rows + getD w (starts + z + 1) 0) where
+  -- the queue has at most all zones
+  pub tail-few : tail ≤ R .zones
+  tail-few = omega (arith, G .room, G .able .room)
+
+  module _ {z a b : ℕ} (ez : z ≡ cell w (S .queue) head) (ea : a ≡ R .rows + getD w (R .starts + z) 0)
+      (eb : b ≡ R .rows + getD w (R .starts + z + 1) 0) where
     -- it is a zone
-    pub z-zone : z < zones
-    z-zone = omega (arith, S .stacked t (omega arith) .0)
-
-    -- it has a mark
-    z-marked : Marked w marks z
-    z-marked = rw is at (S .stacked t (omega arith) .1 .0)
-
-    -- a run leads to it
-    z-run : Run (Entry (rows-of w₀ zones starts rows)) from z
-    z-run = rw is at (S .stacked t (omega arith) .1 .1)
+    pub head-zone : z < R .zones
+    head-zone = rw ez (G .met head (G .low) more .zone)
 
     -- its row starts at a
-    start-is : rows-of w zones starts rows .start z ≡ a
-    start-is = start-at w zones starts rows z ∙ sym starts-here
+    start-is : rows-in w R .start z ≡ a
+    start-is = start-at w (R .zones) (R .starts) (R .rows) z ∙ sym ea
 
     -- its row stops at b
-    stop-is : rows-of w zones starts rows .stop z ≡ b
-    stop-is = stop-at w zones starts rows z ∙ sym stops-here
-
-    -- its row starts at a in the memory where the search began too
-    start-was : rows-of w₀ zones starts rows .start z ≡ a
-    start-was = rw rows-same at start-is
-
-    -- its row stops at b in the memory where the search began too
-    stop-was : rows-of w₀ zones starts rows .stop z ≡ b
-    stop-was = rw rows-same at stop-is
+    stop-is : rows-in w R .stop z ≡ b
+    stop-is = stop-at w (R .zones) (R .starts) (R .rows) z ∙ sym eb
 
     -- the head at a place of its row
-    head-is : (i : ℕ) → a ≤ i → rows-of w₀ zones starts rows .head i ≡ getD w i 0
-    head-is i h = rw rows-same at (head-at w zones starts rows i (omega (arith, L .order)))
+    head-is : (i : ℕ) → a ≤ i → rows-in v R .head i ≡ getD w i 0
+    head-is i h =
+        rw rows-same at (head-at w (R .zones) (R .starts) (R .rows) i (omega (arith, laid-now .order)))
 
     -- its row can be visited
-    pub visitable : Visitable w zones a b marks stack t
-    visitable =
+    pub head-visitable : Visitable w R S x a b tail
+    head-visitable =
+        let L = laid-now in
         record {
+          some = G .able .some;
           apart = L .apart;
           before = omega (arith, L .before, L .order);
-          order = omega (arith, start-is, stop-is, laid .sound .up z z-zone);
-          fits = omega (arith, stop-is, laid .ends z z-zone);
+          order = omega (arith, start-is, stop-is, L .sound .up z head-zone);
+          fits = omega (arith, stop-is, L .ends z head-zone);
           heads = λ i l h.
               omega (
                 arith,
-                laid .sound .heads z i z-zone (omega (arith, start-is)) (omega (arith, stop-is)),
-                head-at w zones starts rows i (omega (arith, L .order)),
+                L .sound .heads z i head-zone (omega (arith, start-is)) (omega (arith, stop-is)),
+                head-at w (R .zones) (R .starts) (R .rows) i (omega (arith, L .order)),
               );
-          room = omega (arith, S .room);
+          room = omega (arith, G .room, G .able .room);
         }
 
-    -- the row is visited
-    module _ (w' : List ℕ) (r : ℕ) (D : Visited w w' zones a b marks stack t r) where
-      -- an entry of the row
-      entry : {v : ℕ} → Within w a b v → Entry (rows-of w₀ zones starts rows) z v
-      entry q =
+    -- its row, as the search began
+    row-was : (i : ℕ) → rows-in v R .start z ≤ i → i < rows-in v R .stop z → (a ≤ i) × (i < b)
+    row-was i l h =
+        let s : rows-in v R .start z ≡ a = rw rows-same at start-is in
+        let e : rows-in v R .stop z ≡ b = rw rows-same at stop-is in
+        (omega arith, omega arith)
+
+    -- runs of entries lead to the zones of its row
+    runs : (i : ℕ) → a ≤ i → i < b → Run (Entry (rows-in v R)) from (getD w i 0)
+    runs i l h =
+        let s : rows-in v R .start z ≡ a = rw rows-same at start-is in
+        let e : rows-in v R .stop z ≡ b = rw rows-same at stop-is in
+        further (rw (sym ez) at (G .met head (G .low) more .run))
+        (record { tail = head-zone; at = i; low = omega arith; high = omega arith; is = head-is i l })
+
+    -- its row is visited
+    module _ {w' : List ℕ} {r : ℕ} (D : Visited w w' R S x a b tail r) where
+      -- all of its row has marks
+      row-full : Row-marked (rows-in v R) w' (S .marks) (cell w' (S .queue) head)
+      row-full =
+          rw (D .front head more ∙ sym ez)
+          (λ i l h. rw (head-is i (row-was i l h .0)) (D .all i (row-was i l h .0) (row-was i l h .1)))
+
+      -- the search goes on with the next zone of the queue
+      pub spreading-next : Spreading v w' R S from x top (head + 1) r
+      spreading-next =
+          let N = D .goes-on v from top head G more runs in
           record {
-            tail = z-zone;
-            at = q .at;
-            low = omega (arith, start-was, q .low);
-            high = omega (arith, stop-was, q .high);
-            is = head-is (q .at) (q .low) ∙ q .is;
-          }
-
-      -- marks stand only where one stood or a run leads
-      sound : (v : ℕ) → v < zones → Marked w' marks v →
-          Marked w₀ marks v ⊎ Run (Entry (rows-of w₀ zones starts rows)) from v
-      sound v hv m = ⊎-elim (S .sound v hv) (λ q. inr (further z-run (entry (q .0)))) (D .new v hv m)
-
-      -- an element of the row is a zone, has a mark, and a run leads to it
-      new-on-stack : (v : ℕ) → Within w a b v →
-          (v < zones) × (Marked w' marks v × Run (Entry (rows-of w₀ zones starts rows)) from v)
-      new-on-stack v q = (
-        rw (q .is) at (visitable .heads (q .at) (q .low) (q .high)),
-        (rw (q .is) at (D .all (q .at) (q .low) (q .high)), further z-run (entry q)),
-      )
-
-      -- the stack holds marked zones to which a run leads
-      stacked : (j : ℕ) → j < r →
-          (getD w' (stack + j) 0 < zones)
-          × (Marked w' marks (getD w' (stack + j) 0)
-          × Run (Entry (rows-of w₀ zones starts rows)) from (getD w' (stack + j) 0))
-      stacked j hj =
-          ⊎-elim
-          (λ b. let s = S .stacked j (omega arith) in
-          rw (D .old j b) (s .0, (more D (getD w (stack + j) 0) (s .0) (s .1 .0), s .1 .1)))
-          (λ b. new-on-stack (getD w' (stack + j) 0) (D .stacked j b hj))
-          (below? j t)
-
-      -- all of the row has marks
-      z-row : Row-marked (rows-of w₀ zones starts rows) w' marks z
-      z-row i l h =
-          rw (head-is i (omega (arith, start-was)))
-          (D .all i (omega (arith, start-was)) (omega (arith, stop-was)))
-
-      -- what stood on the stack stands there still, or is the zone whose row is visited
-      was : (v : ℕ) → Within w stack (stack + top) v →
-          Within w' stack (stack + r) v ⊎ Row-marked (rows-of w₀ zones starts rows) w' marks v
-      was v q =
-          ⊎-elim
-          (λ b. inl
-          (record {
-            at = q .at;
-            low = q .low;
+            able = N .able;
+            kept = N .kept;
+            room = N .room;
+            low = omega (arith, G .low);
             high = omega (arith, D .grown);
-            is =
-                ap (λ (n : ℕ). getD w' n 0) (omega (arith, q .low))
-                ∙ D .old (q .at - stack) (omega (arith, q .low))
-                ∙ ap (λ (n : ℕ). getD w n 0) (omega (arith, q .low))
-                ∙ q .is;
-          }))
-          (λ b. let e : v ≡ z = sym (q .is) ∙ ap (λ (n : ℕ). getD w n 0) (omega (arith, q .high)) ∙ is in
-          inr (rw e z-row))
-          (below? (q .at) (stack + t))
-
-      -- a row with marks keeps them
-      row-more : (v : ℕ) → v < zones → Row-marked (rows-of w₀ zones starts rows) w marks v →
-          Row-marked (rows-of w₀ zones starts rows) w' marks v
-      row-more v hv f i l h = more D (rows-of w₀ zones starts rows .head i) (L .sound .heads v i hv l h) (f i l h)
-
-      -- a marked zone stands on the stack, or all of its row has marks
-      closed : (v : ℕ) → v < zones → Marked w' marks v →
-          Within w' stack (stack + r) v ⊎ Row-marked (rows-of w₀ zones starts rows) w' marks v
-      closed v hv m =
-          ⊎-elim
-          (λ o. ⊎-elim (was v) (λ f. inr (row-more v hv f)) (S .closed v hv o))
-          (λ q. inl
-          (record { at = q .1 .at; low = omega (arith, q .1 .low); high = q .1 .high; is = q .1 .is }))
-          (D .new v hv m)
-
-      -- one zone is taken off the stack, and its row visited
-      pub turn : Searching w₀ w' zones starts rows from marks stack r
-      turn =
-          record {
-            kept = kept-then (S .kept) (D .kept);
-            room = omega (arith, D .room, S .room);
-            zone = S .zone;
-            first = more D from (S .zone) (S .first);
-            old = λ v hv m. more D v hv (S .old v hv m);
-            sound = sound;
-            stacked = stacked;
-            closed = closed;
+            first = N .first;
+            front = N .front;
+            old = N .old;
+            listed = N .listed;
+            met = N .met;
+            once = N .once;
+            done = λ j l m. elim (same? j head) [ inl e ↦ rw e row-full | inr e ↦ N .done j l (omega arith) ];
           }
 
--- with an empty stack the marks are closed
-closed-end : (w₀ w : List ℕ) (zones starts rows from marks stack : ℕ) →
-    Searching w₀ w zones starts rows from marks stack 0 → Closed (rows-of w₀ zones starts rows) w marks
-closed-end w₀ w zones starts rows from marks stack S v hv m =
-    ⊎-elim (λ q. absurd (omega (arith, q .low, q .high))) (λ f. f) (S .closed v hv m)
+-- the queue is gone through
+module _ {v w : List ℕ} {R : RowsAt} {S : SearchAt} {from x top r : ℕ} (G : Spreading v w R S from x top r r) where
+  -- the marks are closed
+  closed-end : Closed (rows-in v R) w (S .marks)
+  closed-end u l m = elim (G .listed u l m) [
+    | inl o ↦ λ i a b e.
+        let h = rows-in v R .head i in
+        let k = G .able .able .closed u l o i a b in
+        k (sym (G .old h (G .able .able .laid .sound .heads u i l a b) k) ∙ e)
+    | inr s ↦ rw (sym (s .is)) (G .done (s .at) (s .low) (s .high))
+  ]
 
--- w' is w with the start marked and put on the stack
-module _ (w w' : List ℕ) (zones starts rows from marks stack : ℕ) (P : Searchable w zones starts rows from marks stack)
-    (made : w' ≡ set (set w (marks + from) 1) stack from) where
-  -- both stores lie in the memory
-  inside : (marks + from < length w) × (stack < length w)
-  inside =
-      let L = P .laid in (
-        omega (arith, P .zone, L .apart, L .before, L .order, L .fits),
-        omega (arith, P .zone, L .before, L .order, L .fits),
-      )
-
-  -- the start has a mark
-  marked : getD w' (marks + from) 0 ≡ 1
-  marked =
-      two-first w w' (marks + from) stack 1 from made (λ e. omega (arith, P .zone, P .laid .apart)) (inside .0)
-
-  -- the start is on the stack
-  stored : getD w' stack 0 ≡ from
-  stored = two-last w w' (marks + from) stack 1 from made (inside .1)
-
-  -- every other mark is as it was
-  mark-other : (v : ℕ) → v < zones → v ≢ from → getD w' (marks + v) 0 ≡ getD w (marks + v) 0
-  mark-other v hv ne =
-      two-other w w' (marks + from) stack 1 from made (marks + v) (λ e. ne (omega arith))
-      (λ e. omega (arith, P .laid .apart))
-
-  -- the start is marked
-  is-marked : Marked w' marks from
-  is-marked e = omega (arith, marked)
-
-  -- what has a mark is the start, or had one
-  was-marked : (v : ℕ) → v < zones → Marked w' marks v → (v ≡ from) ⊎ Marked w marks v
-  was-marked v hv m =
-      ⊎-elim (λ (e : v ≡ from). inl e) (λ ne. inr (λ e. m (mark-other v hv ne ∙ e))) (same? v from)
-
-  -- a mark stays a mark
-  still-marked : (v : ℕ) → v < zones → Marked w marks v → Marked w' marks v
-  still-marked v hv m =
-      ⊎-elim (λ (e : v ≡ from). rw e is-marked) (λ ne e. m (sym (mark-other v hv ne) ∙ e)) (same? v from)
-
-  -- only marks and stack changed
-  kept : Kept w w' marks stack zones
-  kept =
-      let L = P .laid in
-      rw made
-      (kept-then
-      (kept-marks w marks stack zones (marks + from) 1 (L .apart) (omega arith) (omega (arith, P .zone)))
-      (kept-stack (set w (marks + from) 1) marks stack zones stack from (L .apart) (omega arith)
-      (omega (arith, P .zone))))
-
-  -- the rows are as they were
-  rows-stay : drop starts w' ≡ drop starts w
-  rows-stay = kept-rows w w' marks stack zones kept starts (P .laid .before)
-
-  -- so the memory is laid out still
-  pub ready : Laid w' zones starts rows marks stack
-  ready = laid-same w w' zones starts rows marks stack (kept .long) rows-stay (P .laid)
-
-  -- the rows of the zones that had a mark have marks still
-  rows-marked : (v : ℕ) → v < zones → Marked w marks v → Row-marked (rows-of w' zones starts rows) w' marks v
-  rows-marked v hv m =
-      rw rows-stay
-      (λ i l h. still-marked _ (P .laid .sound .heads v i hv l h) (P .closed v hv m i l h))
-
-  -- a search begins with one zone on its stack
-  pub begun : Searching w' w' zones starts rows from marks stack 1
-  begun =
+  -- the search is done
+  pub spread-ended : top < r → Spread v w R S from x top r
+  spread-ended l =
+      let M = G .met top (omega arith) l in
+      let is : cell w (S .marks) from ≡ x = rw (G .first l) at (M .mark) in
       record {
-        kept = kept-same w' marks stack zones;
-        room = omega (arith, zeros-some w' marks zones from (P .zone) is-marked);
-        zone = P .zone;
-        first = is-marked;
-        old = λ v hv m. m;
-        sound = λ v hv m. inl m;
-        stacked = λ j hj.
-            let e : getD w' (stack + j) 0 ≡ from = ap (λ (n : ℕ). getD w' n 0) (omega arith) ∙ stored in
-            rw e (P .zone, (is-marked, here));
-        closed = λ v hv m.
-            ⊎-elim
-            (λ (e : v ≡ from). inl
-            (record { at = stack; low = omega arith; high = omega arith; is = stored ∙ sym e }))
-            (λ o. inr (rows-marked v hv o))
-            (was-marked v hv m);
+        course = G;
+        idle = λ m. absurd (m (rw (G .first l) at (M .free)));
+        complete = λ u p.
+            closed-run (G .able .able .laid .sound) w (S .marks) closed-end (G .able .able .zone)
+            (λ e. omega (arith, G .able .some)) p;
+        closed = closed-end;
       }
 
-  -- what has a mark where the search begins had one, or a run leads to it
-  began : (v : ℕ) → v < zones → Marked w' marks v → Marked w marks v ⊎ Run (Entry (rows-of w zones starts rows)) from v
-  began v hv m = ⊎-elim (λ (e : v ≡ from). inr (rw e here)) (λ o. inl o) (was-marked v hv m)
+-- the start has a mark, and nothing changes
+pub spread-same : {w : List ℕ} {R : RowsAt} {S : SearchAt} {from x top : ℕ} → Spreadable w R S from x top →
+    Marked w (S .marks) from → Spread w w R S from x top top
+spread-same {w} {S = S} A m =
+    record {
+      course = spreading-none A;
+      idle = λ _. (refl, refl);
+      complete = λ u p.
+          closed-run (A .able .laid .sound) w (S .marks) (A .able .closed) (A .able .zone) m p;
+      closed = A .able .closed;
+    }
 
-  -- with an empty stack the search is done
-  pub searched : (w'' : List ℕ) → Searching w' w'' zones starts rows from marks stack 0 →
-      Searched w w'' zones starts rows from marks stack
-  searched w'' S =
-      let all = kept-then kept (S .kept) in
+module _ {w : List ℕ} {R : RowsAt} {S : SearchAt} {from : ℕ} (A : Searchable w R S from) where
+  -- the search can mark with 1, on an empty queue
+  pub spreadable-one : Spreadable w R S from 1 0
+  spreadable-one =
+      record { able = A; some = omega arith; room = omega (arith, zeros-few w (S .marks) (R .zones)) }
+
+  -- what it leaves, said of the marks alone
+  pub searched : {w' : List ℕ} {r : ℕ} → Spread w w' R S from 1 0 r → Searched w w' R S from
+  searched {w'} D =
+      let G = D .course in
       record {
-        kept = all;
-        rows-kept = kept-rows w w'' marks stack zones all starts (P .laid .before);
-        old = λ v hv m. S .old v hv (still-marked v hv m);
-        sound = λ v hv m. ⊎-elim (began v hv) (λ p. inr (rw rows-stay at p)) (S .sound v hv m);
-        complete = λ v p.
-            closed-run (ready .sound) w'' marks (closed-end w' w'' zones starts rows from marks stack S) (S .zone)
-            (S .first) (rw rows-stay p);
-        closed = rw rows-stay at (closed-end w' w'' zones starts rows from marks stack S);
+        kept = G .kept;
+        rows-kept =
+            kept-rows w w' (S .marks) (S .queue) (R .zones) (G .kept) (R .starts) (A .laid .before);
+        old = λ v l m e. m (sym (G .old v l m) ∙ e);
+        sound = λ v l m. elim (G .listed v l m) [
+          | inl o ↦ inl o
+          | inr s ↦ inr (rw (s .is) at (G .met (s .at) (s .low) (s .high) .run))
+        ];
+        complete = D .complete;
+        closed = D .closed;
       }

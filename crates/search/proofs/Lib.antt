@@ -1,6 +1,7 @@
 -- Laws of the search over arranged rows.
 pub mod Keeping
-mod Turn
-pub mod Course
 pub mod Closed
 pub mod Laying
+mod Join
+mod Turn
+pub mod Course

@@ -1,13 +1,18 @@
--- What the search over arranged rows asks and leaves in lent work memory: marks, then a stack, then the rows.
---   Kept             only the marks and the stack may differ: two stretches of n elements
---   Within w a b v   v stands at a place of w from a up to b
---   Laid             marks and stack lie before the rows, and every row lies in the memory
+-- What the search over arranged rows asks and leaves in lent work memory: marks, then a queue, then the rows. A search
+-- gives a mark x to the zones that it meets, and lists them on the queue behind the `top` zones that stand there.
+--   Kept                     only the marks and the queue may differ: two stretches of n elements
+--   rows-in w R              the rows that stand in w at the places R
+--   Laid                     marks and queue lie before the rows, and every row lies in the memory
 --   Clear w marks n          no zone has a mark
 --   Row-marked, Closed       all of a zone's row has marks; that is so of every zone that has a mark
---   Searchable, Searched     what the search asks, and what it leaves: the marks that were there, and marks exactly
---                            where a run of entries leads
---   Visitable, Visited       the same for one row, whose unmarked zones are marked and put on the stack
---   Searching        a search under way, with `top` zones on its stack
+--   Searchable, Searched     what a search with the mark 1 and an empty queue asks, and what it leaves: the marks that
+--                            were there, and marks exactly where a run of entries leads
+--   Queued q f t v           v is q at a place from f up to t
+--   Met                      v had no mark and has x, and a run of entries leads to it
+--   Spreadable, Spread       what any search asks, and what it leaves
+--   Spreading, Underway      a search in the middle: the rows of the zones on the queue before `head` are done
+--   Drained                  the queue is gone through to its end
+--   Visitable, Visited       one row: its zones without a mark get x and join the queue
 -- No mark is 0.
 use mathlib.Core.Path.{_≡_}
 use mathlib.Core.Logic.{_⊎_}
@@ -15,32 +20,32 @@ use mathlib.Core.List.{List}
 use Prim.Native.Nat.{ℕ, _+_, _≤_, _<_}
 use lib.ListN.{length, getD, take, drop}
 use lib.Seq.{slice}
-use Rattle.rows.specs.Rows.{Rows, Sound, Entry, Run, rows-of}
-use Rattle.rows.specs.Marks.{Marked, zeros}
+use Rattle.workmap.specs.declared.RowsAt.{RowsAt}
+use Rattle.workmap.specs.declared.SearchAt.{SearchAt}
+use Rattle.memory.specs.Regions.{cell}
+use Rattle.arranged.specs.Rows.{Rows, Sound, Entry, Run, rows-of}
+use Rattle.arranged.specs.Marks.{Marked, zeros}
 
--- only the n elements from marks on and the n from stack on may differ
-pub record Kept (w w' : List ℕ) (marks stack n : ℕ) : Type 0 where
+-- only the n elements from marks on and the n from queue on may differ
+pub record Kept (w w' : List ℕ) (marks queue n : ℕ) : Type 0 where
   pub long : length w' ≡ length w
   pub below : take marks w' ≡ take marks w
-  pub between : slice (marks + n) stack w' ≡ slice (marks + n) stack w
-  pub above : drop (stack + n) w' ≡ drop (stack + n) w
+  pub between : slice (marks + n) queue w' ≡ slice (marks + n) queue w
+  pub above : drop (queue + n) w' ≡ drop (queue + n) w
 
--- v stands at a place from a up to b
-pub record Within (w : List ℕ) (a b v : ℕ) : Type 0 where
-  pub at : ℕ
-  pub low : a ≤ at
-  pub high : at < b
-  pub is : getD w at 0 ≡ v
+-- the rows that stand in w at the places R
+abbrev pub rows-in : List ℕ → RowsAt → Rows
+rows-in w R = rows-of w R
 
--- the rows lie in the memory, and the marks and the stack lie before them
-pub record Laid (w : List ℕ) (zones starts rows marks stack : ℕ) : Type 0 where
-  pub small : zones ≤ 1024
-  pub apart : marks + zones ≤ stack
-  pub before : stack + zones ≤ starts
-  pub order : starts + zones < rows
-  pub fits : rows ≤ length w
-  pub ends : (z : ℕ) → z < zones → rows-of w zones starts rows .stop z ≤ length w
-  pub sound : Sound (rows-of w zones starts rows)
+-- the rows lie in the memory, and the marks and the queue lie before them
+pub record Laid (w : List ℕ) (R : RowsAt) (S : SearchAt) : Type 0 where
+  pub small : R .zones ≤ 1024
+  pub apart : S .marks + R .zones ≤ S .queue
+  pub before : S .queue + R .zones ≤ R .starts
+  pub order : R .starts + R .zones < R .rows
+  pub fits : R .rows ≤ length w
+  pub ends : (z : ℕ) → z < R .zones → rows-in w R .stop z ≤ length w
+  pub sound : Sound (rows-in w R)
 
 -- no zone has a mark
 abbrev pub Clear : List ℕ → ℕ → ℕ → Type 0
@@ -55,67 +60,97 @@ abbrev pub Closed : Rows → List ℕ → ℕ → Type 0
 Closed G w marks = (v : ℕ) → v < G .zones → Marked w marks v → Row-marked G w marks v
 
 -- what the search asks: the memory is laid out, the marks are closed, and the start is a zone
-pub record Searchable (w : List ℕ) (zones starts rows from marks stack : ℕ) : Type 0 where
-  pub laid : Laid w zones starts rows marks stack
-  pub closed : Closed (rows-of w zones starts rows) w marks
-  pub zone : from < zones
+pub record Searchable (w : List ℕ) (R : RowsAt) (S : SearchAt) (from : ℕ) : Type 0 where
+  pub laid : Laid w R S
+  pub closed : Closed (rows-in w R) w (S .marks)
+  pub zone : from < R .zones
 
 -- what the search leaves: the marks that were there, and marks exactly where a run of entries leads; they are closed
--- again, and all but marks and stack is as it was
-pub record Searched (w w' : List ℕ) (zones starts rows from marks stack : ℕ) : Type 0 where
-  pub kept : Kept w w' marks stack zones
-  pub rows-kept : drop starts w' ≡ drop starts w
-  pub old : (v : ℕ) → v < zones → Marked w marks v → Marked w' marks v
+-- again, and all but marks and queue is as it was
+pub record Searched (w w' : List ℕ) (R : RowsAt) (S : SearchAt) (from : ℕ) : Type 0 where
+  pub kept : Kept w w' (S .marks) (S .queue) (R .zones)
+  pub rows-kept : drop (R .starts) w' ≡ drop (R .starts) w
+  pub old : (v : ℕ) → v < R .zones → Marked w (S .marks) v → Marked w' (S .marks) v
   pub sound :
-      (v : ℕ) → v < zones → Marked w' marks v → Marked w marks v ⊎ Run (Entry (rows-of w zones starts rows)) from v
-  pub complete : (v : ℕ) → Run (Entry (rows-of w zones starts rows)) from v → (v < zones) × Marked w' marks v
-  pub closed : Closed (rows-of w zones starts rows) w' marks
+      (v : ℕ) → v < R .zones → Marked w' (S .marks) v → Marked w (S .marks) v ⊎ Run (Entry (rows-in w R)) from v
+  pub complete : (v : ℕ) → Run (Entry (rows-in w R)) from v → (v < R .zones) × Marked w' (S .marks) v
+  pub closed : Closed (rows-in w R) w' (S .marks)
 
--- a row from place a up to place b can be visited with `height` zones on the stack
-pub record Visitable (w : List ℕ) (zones a b marks stack height : ℕ) : Type 0 where
-  pub apart : marks + zones ≤ stack
-  pub before : stack + zones ≤ a
+-- v is q at a place from `from` up to `to`
+pub record Queued (q : ℕ → ℕ) (from to v : ℕ) : Type 0 where
+  pub at : ℕ
+  pub low : from ≤ at
+  pub high : at < to
+  pub is : q at ≡ v
+
+-- v had no mark in w and has x in w', and a run of entries leads to it
+pub record Met (w w' : List ℕ) (R : RowsAt) (S : SearchAt) (from x v : ℕ) : Type 0 where
+  pub zone : v < R .zones
+  pub free : cell w (S .marks) v ≡ 0
+  pub mark : cell w' (S .marks) v ≡ x
+  pub run : Run (Entry (rows-in w R)) from v
+
+-- what a search asks that marks with x: the queue, which holds `top` zones, has room for those without a mark
+pub record Spreadable (w : List ℕ) (R : RowsAt) (S : SearchAt) (from x top : ℕ) : Type 0 where
+  pub able : Searchable w R S from
+  pub some : 0 < x
+  pub room : top + zeros w (S .marks) (R .zones) ≤ R .zones
+
+-- a search that began at w: from `top` up to `tail` the queue lists the zones that it met, each once and the start
+-- first, and those before `head` have rows that are full of marks; marks that were there are as they were
+pub record Spreading (w w' : List ℕ) (R : RowsAt) (S : SearchAt) (from x top head tail : ℕ) : Type 0 where
+  pub able : Spreadable w R S from x top
+  pub kept : Kept w w' (S .marks) (S .queue) (R .zones)
+  pub room : tail + zeros w' (S .marks) (R .zones) ≡ top + zeros w (S .marks) (R .zones)
+  pub low : top ≤ head
+  pub high : head ≤ tail
+  pub first : top < tail → cell w' (S .queue) top ≡ from
+  pub front : (j : ℕ) → j < top → cell w' (S .queue) j ≡ cell w (S .queue) j
+  pub old : (v : ℕ) → v < R .zones → Marked w (S .marks) v → cell w' (S .marks) v ≡ cell w (S .marks) v
+  pub listed :
+      (v : ℕ) → v < R .zones → Marked w' (S .marks) v → Marked w (S .marks) v ⊎ Queued (cell w' (S .queue)) top tail v
+  pub met : (j : ℕ) → top ≤ j → j < tail → Met w w' R S from x (cell w' (S .queue) j)
+  pub once : (i j : ℕ) → top ≤ i → i < j → j < tail → cell w' (S .queue) i ≡ cell w' (S .queue) j → ⊥
+  pub done : (j : ℕ) → top ≤ j → j < head → Row-marked (rows-in w R) w' (S .marks) (cell w' (S .queue) j)
+
+-- what a search leaves, with the queue's end at r: it has gone through the queue, so the marks are closed again, and
+-- each zone that a run of entries leads to has one; where the start had a mark nothing changes
+pub record Spread (w w' : List ℕ) (R : RowsAt) (S : SearchAt) (from x top r : ℕ) : Type 0 where
+  pub course : Spreading w w' R S from x top r r
+  pub idle : Marked w (S .marks) from → (w' ≡ w) × (r ≡ top)
+  pub complete : (v : ℕ) → Run (Entry (rows-in w R)) from v → (v < R .zones) × Marked w' (S .marks) v
+  pub closed : Closed (rows-in w R) w' (S .marks)
+
+-- some search has met one zone, and has gone through none
+pub record Underway (w : List ℕ) (R : RowsAt) (S : SearchAt) (x top : ℕ) : Type 0 where
+  pub began : List ℕ
+  pub from : ℕ
+  pub course : Spreading began w R S from x top top (top + 1)
+
+-- any search that had met one zone has gone through its queue
+pub record Drained (w w' : List ℕ) (R : RowsAt) (S : SearchAt) (x top r : ℕ) : Type 0 where
+  pub grown : top < r
+  pub goes-on : (v : List ℕ) (from : ℕ) → Spreading v w R S from x top top (top + 1)
+      → Spreading v w' R S from x top r r
+
+-- a row from place a up to place b can be visited with the queue's end at `tail`
+pub record Visitable (w : List ℕ) (R : RowsAt) (S : SearchAt) (x a b tail : ℕ) : Type 0 where
+  pub some : 0 < x
+  pub apart : S .marks + R .zones ≤ S .queue
+  pub before : S .queue + R .zones ≤ a
   pub order : a ≤ b
   pub fits : b ≤ length w
-  pub heads : (i : ℕ) → a ≤ i → i < b → getD w i 0 < zones
-  pub room : height + zeros w marks zones ≤ zones
+  pub heads : (i : ℕ) → a ≤ i → i < b → getD w i 0 < R .zones
+  pub room : tail + zeros w (S .marks) (R .zones) ≤ R .zones
 
--- the row is visited: each of its zones has a mark, and those that had none are the new ones on the stack
-pub record Visited (w w' : List ℕ) (zones a b marks stack height r : ℕ) : Type 0 where
-  pub kept : Kept w w' marks stack zones
-  pub room : r + zeros w' marks zones ≡ height + zeros w marks zones
-  pub grown : height ≤ r
-  pub one :
-      (v : ℕ) → v < zones → (getD w' (marks + v) 0 ≡ getD w (marks + v) 0) ⊎ (getD w' (marks + v) 0 ≡ 1)
-  pub all : (i : ℕ) → a ≤ i → i < b → Marked w' marks (getD w i 0)
-  pub new :
-      (v : ℕ) →
-      v < zones →
-      Marked w' marks v →
-      Marked w marks v ⊎ (Within w a b v × Within w' (stack + height) (stack + r) v)
-  pub old : (j : ℕ) → j < height → getD w' (stack + j) 0 ≡ getD w (stack + j) 0
-  pub stacked : (j : ℕ) → height ≤ j → j < r → Within w a b (getD w' (stack + j) 0)
-
--- a search that began at w₀ has `top` zones on its stack: a marked zone is on it, or all of its row has marks
-pub record Searching (w₀ w : List ℕ) (zones starts rows from marks stack top : ℕ) : Type 0 where
-  pub kept : Kept w₀ w marks stack zones
-  pub room : top + zeros w marks zones ≤ zones
-  pub zone : from < zones
-  pub first : Marked w marks from
-  pub old : (v : ℕ) → v < zones → Marked w₀ marks v → Marked w marks v
-  pub sound :
-      (v : ℕ) →
-      v < zones →
-      Marked w marks v →
-      Marked w₀ marks v ⊎ Run (Entry (rows-of w₀ zones starts rows)) from v
-  pub stacked :
-      (j : ℕ) →
-      j < top →
-      (getD w (stack + j) 0 < zones)
-      × (Marked w marks (getD w (stack + j) 0)
-      × Run (Entry (rows-of w₀ zones starts rows)) from (getD w (stack + j) 0))
-  pub closed :
-      (v : ℕ) →
-      v < zones →
-      Marked w marks v →
-      Within w stack (stack + top) v ⊎ Row-marked (rows-of w₀ zones starts rows) w marks v
+-- the row is visited, and the queue's end is r: each of its zones has a mark, and any search for which runs of entries
+-- lead to them has met them
+pub record Visited (w w' : List ℕ) (R : RowsAt) (S : SearchAt) (x a b tail r : ℕ) : Type 0 where
+  pub kept : Kept w w' (S .marks) (S .queue) (R .zones)
+  pub room : r + zeros w' (S .marks) (R .zones) ≡ tail + zeros w (S .marks) (R .zones)
+  pub grown : tail ≤ r
+  pub front : (j : ℕ) → j < tail → cell w' (S .queue) j ≡ cell w (S .queue) j
+  pub all : (i : ℕ) → a ≤ i → i < b → Marked w' (S .marks) (getD w i 0)
+  pub goes-on : (v : List ℕ) (from top head : ℕ) → Spreading v w R S from x top head tail → head < tail
+      → ((i : ℕ) → a ≤ i → i < b → Run (Entry (rows-in v R)) from (getD w i 0))
+      → Spreading v w' R S from x top head r

@@ -1,82 +1,102 @@
-// The search over arranged rows, in lent work memory: marks, then a stack, then the rows. It marks every zone that a
-// run of entries leads to, and looks once at each entry of each row that it comes to.
+// The search over arranged rows, in lent work memory: marks, then a queue, then the rows. It gives a mark to each zone
+// that has none and that a run of entries leads to, and lists these zones on the queue, first in, first out. It looks
+// once at each entry of each row that it comes to.
+//     rows, at      where the rows stand, and where the marks and the queue
+//     x             the mark that is given, not 0
+//     top, tail     how many zones the queue holds, before the search and now
+use arranged::Found;
+use arranged::step;
 use memory::wide;
-use rows::Found;
-use rows::step;
-ghost use Rattle.search.specs.Marking.{Visitable, Visited, Laid, Searching, Searchable, Searched};
+use workmap::RowsAt;
+use workmap::SearchAt;
+ghost use Rattle.search.specs.Marking.{Visitable, Visited, Underway, Drained};
+ghost use Rattle.search.specs.Marking.{Spreadable, Spread, Searchable, Searched};
 
-// Marks the unmarked zones of the row from `from` up to `to` and puts them on the stack; answers the stack's height.
+// Marks the unmarked zones of the row from `from` up to `to` and puts them on the queue. Answers the queue's new end.
 fn visit(
     work: &mut [u16],
-    zones: usize,
+    rows: RowsAt,
+    at: SearchAt,
+    x: u16,
     from: usize,
     to: usize,
-    marks: usize,
-    stack: usize,
-    height: usize,
+    tail: usize,
 ) -> usize
-    requires { ⌜ Visitable (now work) zones from to marks stack height ⌝ }
-    ensures { λ r. ⌜ Visited (now (work .entry)) (now (work .exit)) zones from to marks stack height r ⌝ }
+    requires { ⌜ Visitable (now work) rows at x from to tail ⌝ }
+    ensures { λ r. ⌜ Visited (now (work .entry)) (now (work .exit)) rows at x from to tail r ⌝ }
 {
     let mut a = from;
-    let mut top = height;
+    let mut end = tail;
     while a < to {
-        match step(work, a, to, marks, zones) {
+        match step(work, a, to, at.marks, rows.zones) {
             Found::Nothing => {
-                return top;
+                return end;
             }
             Found::At(i) => {
+                let marks = at.marks;
+                let queue = at.queue;
                 let h = work[a + i];
                 let m = marks + wide(h);
-                work[m] = 1;
-                work[stack + top] = h;
-                top += 1;
+                work[m] = x;
+                work[queue + end] = h;
+                end += 1;
                 a = a + i + 1;
             }
         }
     }
-    top
+    end
 }
 
-// Takes the zones off the stack one after another and visits the row of each.
-fn drain(
-    work: &mut [u16],
-    zones: usize,
-    starts: usize,
-    rows: usize,
-    from: usize,
-    marks: usize,
-    stack: usize,
-)
-    requires { ⌜ Laid (now work) zones starts rows marks stack ⌝ }
-    requires { ⌜ Searching (now work) (now work) zones starts rows from marks stack 1 ⌝ }
-    ensures { λ r. ⌜ Searching (now (work .entry)) (now (work .exit)) zones starts rows from marks stack 0 ⌝ }
+// Goes through the queue from place `top` on, where one zone stands, and visits the row of each. Answers the queue's
+// end.
+fn drain(work: &mut [u16], rows: RowsAt, at: SearchAt, x: u16, top: usize) -> usize
+    requires { ⌜ Underway (now work) rows at x top ⌝ }
+    ensures { λ r. ⌜ Drained (now (work .entry)) (now (work .exit)) rows at x top r ⌝ }
 {
-    let mut top = 1;
-    while 0 < top {
-        top -= 1;
-        let z = wide(work[stack + top]);
-        let a = rows + wide(work[starts + z]);
-        let b = rows + wide(work[starts + z + 1]);
-        top = visit(work, zones, a, b, marks, stack, top);
+    let mut head = top;
+    let mut tail = top + 1;
+    while head < tail {
+        let starts = rows.starts;
+        let heads = rows.rows;
+        let queue = at.queue;
+        let z = wide(work[queue + head]);
+        let a = heads + wide(work[starts + z]);
+        let b = heads + wide(work[starts + z + 1]);
+        tail = visit(work, rows, at, x, a, b, tail);
+        head += 1;
     }
+    tail
 }
 
-// Marks every zone that a run of entries leads to from the zone `from`, beside the marks that are there. These are
-// closed: where a zone has one, all of its row has.
-pub fn search(
+// Gives the mark x to every zone without a mark that a run of entries leads to from the zone `from`, and lists them on
+// the queue behind the first `top`. The marks that are there are closed: where a zone has one, all of its row has.
+// Answers the queue's end.
+pub fn spread(
     work: &mut [u16],
-    zones: usize,
-    starts: usize,
-    rows: usize,
+    rows: RowsAt,
+    at: SearchAt,
     from: usize,
-    marks: usize,
-    stack: usize,
-)
-    requires { ⌜ Searchable (now work) zones starts rows from marks stack ⌝ }
-    ensures { λ r. ⌜ Searched (now (work .entry)) (now (work .exit)) zones starts rows from marks stack ⌝ }
+    x: u16,
+    top: usize,
+) -> usize
+    requires { ⌜ Spreadable (now work) rows at from x top ⌝ }
+    ensures { λ r. ⌜ Spread (now (work .entry)) (now (work .exit)) rows at from x top r ⌝ }
 {
-    work[marks + from] = 1;
-    work[stack] = from as u16;
-    drain(work, zones, starts, rows, from, marks, stack);
+    let marks = at.marks;
+    let queue = at.queue;
+    if work[marks + from] != 0 {
+        return top;
+    }
+    work[marks + from] = x;
+    work[queue + top] = from as u16;
+    drain(work, rows, at, x, top)
+}
+
+// The search with the mark 1 and an empty queue: marks every zone that a run of entries leads to from the zone `from`,
+// beside the marks that are there, which are closed.
+pub fn search(work: &mut [u16], rows: RowsAt, at: SearchAt, from: usize)
+    requires { ⌜ Searchable (now work) rows at from ⌝ }
+    ensures { λ r. ⌜ Searched (now (work .entry)) (now (work .exit)) rows at from ⌝ }
+{
+    spread(work, rows, at, from, 1, 0);
 }

@@ -4,4 +4,3 @@ mod Zone
 mod Zones
 mod Answering
 mod Sketching
-pub mod Outcomes

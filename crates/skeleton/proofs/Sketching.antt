@@ -1,11 +1,10 @@
 -- The core of `skeleton`: from the readied memory to the named one, and from the arcs of all zones to the skeleton.
---   lent-here       the readied memory is what naming asks for
 --   named-here      after naming rows and names stand
 --   sketched        the arcs from all zones are the skeleton, and clearing leaves what came behind
 -- Assumes nothing.
-use mathlib.Core.Path.{_≡_, refl, sym, ap, _∙_}
+use mathlib.Core.Path.{_≡_, sym, ap, _∙_}
 use mathlib.Core.List.{List, List·Memᴰ as In, map}
-use Prim.Native.Nat.{ℕ, _+_, _*_, _≤_}
+use Prim.Native.Nat.{ℕ, _+_, _≤_}
 use native.Mathlib.Omega.{arith}
 use lib.ListN.{length, drop}
 use borrow.Author.Tests.{eq-eqb}
@@ -13,46 +12,33 @@ use Rattle.rules.specs.Lists.{over, cleared}
 use Rattle.rules.specs.Network.{Arc, network-of}
 use Rattle.rules.specs.Components.{name, is-name, names}
 use Rattle.rules.specs.Calls.{arcs-of, handed, asked-work}
+use Rattle.intake.proofs.Fine.{fine-few}
 use Rattle.theory.proofs.Ground.Lists.{in-keep}
-use Rattle.theory.proofs.Ground.Ascending.{run-length}
+use Rattle.theory.proofs.Ground.Ascending.{span-length}
 use Rattle.theory.proofs.Ground.Counting.{keep-length}
 use Rattle.theory.proofs.Reaching.Components.{names-zone}
-use Rattle.rows.specs.Work.{starts-at}
-use Rattle.rows.proofs.ArrangedLaws.{arranged-kept}
+use Rattle.arranged.proofs.ArrangedLaws.{arranged-kept}
 use Rattle.memory.proofs.Places.{drop-deeper}
-use Rattle.network.specs.Ready.{Readyable, Readied}
-use Rattle.network.proofs.Memory.{arcs-within, readied-zero, cleared-back}
-use Rattle.components.specs.Components.{Lent, Components}
-use Rattle.crossings.specs.Named.{Named}
-use Rattle.skeleton.specs.Putting.{Roomy, skeleton-part, Rows-put}
+use Rattle.memory.proofs.Cleared.{cleared-back}
+use Rattle.workmap.specs.Map.{map-of, rows-at}
+use Rattle.arranged.specs.Ready.{Readyable, Readied}
+use Rattle.components.specs.Components.{Components}
+use Rattle.crossings.specs.Named.{Named, tops-at}
+use Rattle.skeleton.specs.Putting.{Arcs-fit, skeleton-part, Rows-put}
 use Rattle.skeleton.specs.Promises.{Sketchable, Sketched}
 use Rattle.skeleton.proofs.Puts.{put-over}
 use Rattle.skeleton.proofs.Zones.{part-all, part-few}
 
-module _ (n : ℕ) (ts hs w w₁ : List ℕ) (R : Readyable n ts hs w) (A : Readied w w₁ n ts hs) where
-  -- the readied memory is what naming asks for
-  pub lent-here : Lent w₁ n (length ts) ts hs
-  lent-here =
-      record {
-        small = R .fine .high;
-        few = R .fine .few;
-        tails = refl;
-        heads = sym (R .fine .paired);
-        between = arcs-within n ts hs (R .fine);
-        room = omega (arith, R .room, R .fine .low, A .standing .long);
-        rows = A .standing .rows;
-        turned = A .standing .turned;
-        clear = λ i l h. readied-zero A i h;
-      }
-
+module _ (n : ℕ) (ts hs w w₁ : List ℕ) (R : Readyable (map-of n (length ts)) ts hs w)
+    (A : Readied w w₁ (map-of n (length ts)) ts hs) where
   -- w₂ is the memory after naming
-  module _ (w₂ : List ℕ) (m : ℕ) (C : Components w₁ w₂ n (network-of n (arcs-of ts hs)) m) where
+  module _ (w₂ : List ℕ) (m : ℕ) (C : Components w₁ w₂ (map-of n (length ts)) (network-of n (arcs-of ts hs)) m) where
     -- there are no more names than zones
     names-few : m ≤ n
     unfolding names
     names-few =
         let N = network-of n (arcs-of ts hs) in
-        omega (arith, C .count, keep-length (is-name N) (N .zones), run-length 0 n)
+        omega (arith, C .count, keep-length (is-name N) (N .zones), span-length 0 n)
 
     -- a zone that names itself is listed
     listed : (c : ℕ) → In c (handed n ts hs .zones) → name (handed n ts hs) c ≡ c → In c (names (handed n ts hs))
@@ -66,7 +52,7 @@ module _ (n : ℕ) (ts hs w w₁ : List ℕ) (R : Readyable n ts hs w) (A : Read
         record {
           fine = R .fine;
           room = omega (arith, R .room, A .standing .long, C .long);
-          rows = arranged-kept w₁ w₂ n (starts-at n) (13 * n + 1) (arcs-of ts hs) (C .back) (A .standing .rows);
+          rows = arranged-kept w₁ w₂ (map-of n (length ts) .rows) (arcs-of ts hs) (C .back) (A .standing .rows);
           few = names-few;
           named = C .named;
           ordered =
@@ -84,12 +70,12 @@ module _ (n : ℕ) (ts hs w w₁ : List ℕ) (R : Readyable n ts hs w) (A : Read
       behind : drop (asked-work n (length ts)) w₃ ≡ drop (asked-work n (length ts)) w
       behind =
           let asked = asked-work n (length ts) in
-          drop-deeper w₂ w₃ (4 * n) asked (omega arith) (P .high)
-          ∙ drop-deeper w₁ w₂ (starts-at n) asked (omega arith) (C .back)
+          drop-deeper w₂ w₃ (tops-at n) asked (omega arith) (P .high)
+          ∙ drop-deeper w₁ w₂ (rows-at n .starts) asked (omega arith) (C .back)
           ∙ A .standing .beyond
 
       -- the arcs of all zones have room
-      roomy : Roomy ots ohs 0 (skeleton-part (handed n ts hs) n n)
+      roomy : Arcs-fit ots ohs 0 (skeleton-part (handed n ts hs) n n)
       roomy =
           let few = part-few w₂ n ts hs m named-here n (omega arith) in
           record { tails = omega (arith, S .tails-room); heads = omega (arith, S .heads-room) }

@@ -1,5 +1,6 @@
 -- The skeleton's arcs, zone by zone.
---   zones-none, zones-named, zones-room, zones-turn    no zone yet; what the next zone asks; and one zone more
+--   zones-none, zones-named     no zone yet; what marking the next zone asks
+--   zones-markable, zones-room, zones-turn     what putting its arcs asks; and one zone more
 --   part-all        the arcs from all zones are the skeleton
 -- The skeleton has no more arcs than its network, and so there is room at every turn. Assumes nothing.
 use mathlib.Core.Path.{_≡_, refl, ap, _∙_}
@@ -7,17 +8,26 @@ use mathlib.Core.List.{List}
 use Prim.Native.Nat.{ℕ, _+_, _≤_, _<_}
 use native.Mathlib.Omega.{arith}
 use lib.ListN.{length, length-append}
-use Rattle.rules.specs.Lists.{run}
+use Rattle.rules.specs.Lists.{span, keep}
 use Rattle.rules.specs.Network.{Network}
 use Rattle.rules.specs.Skeleton.{in-skeleton, skeleton}
 use Rattle.rules.specs.Calls.{handed}
 use Rattle.theory.proofs.Ground.ArcLists.{arcs-length}
 use Rattle.theory.proofs.Skeletons.SkeletonLeast.{skeleton-short}
-use Rattle.theory.proofs.Skeletons.SkeletonRows.{rows-none, rows-next, rows-few, skeleton-rows}
+use Rattle.theory.proofs.Skeletons.SkeletonRows.{pair-row, rows-none, rows-next, rows-few, skeleton-rows}
 use Rattle.crossings.specs.Named.{Named}
 use Rattle.crossings.proofs.NamedLaws.{named-kept, named-proper}
-use Rattle.skeleton.specs.Putting.{Roomy, skeleton-row, skeleton-part, Zone-put, Rows-put}
-use Rattle.skeleton.proofs.Puts.{put-none, put-then, put-long}
+use Rattle.skeleton.specs.Putting.{
+  marked-arc,
+  Row-markable,
+  Arcs-fit,
+  Arcs-put,
+  skeleton-row,
+  skeleton-part,
+  Zone-marked,
+  Rows-put,
+}
+use Rattle.skeleton.proofs.Puts.{arc-put-none, put-then, put-long}
 
 -- the arcs from all zones are the skeleton
 pub part-all : (n : ℕ) (ts hs : List ℕ) → skeleton (handed n ts hs) ≡ skeleton-part (handed n ts hs) n n
@@ -39,7 +49,7 @@ module _ (w : List ℕ) (n : ℕ) (ts hs : List ℕ) (m : ℕ) (N : Named w n ts
   part-few a h =
       omega (
         arith,
-        rows-few (in-skeleton net) (run 0 n) a n h,
+        rows-few (in-skeleton net) (span 0 n) a n h,
         ap length (part-all n ts hs),
         skeleton-short (named-proper w n ts hs m N),
         arcs-many,
@@ -49,37 +59,51 @@ module _ (w : List ℕ) (n : ℕ) (ts hs : List ℕ) (m : ℕ) (N : Named w n ts
   part-next : (a : ℕ) →
       length (skeleton-part net n (a + 1)) ≡ length (skeleton-part net n a) + length (skeleton-row net n a)
   part-next a =
-      ap length (rows-next (in-skeleton net) (run 0 n) a)
+      ap length (rows-next (in-skeleton net) (span 0 n) a)
       ∙ length-append (skeleton-part net n a) (skeleton-row net n a)
 
   module _ (ots ohs : List ℕ) where
     -- before the first zone no arc is put
     pub zones-none : Rows-put w w n ts hs 0 ots ohs ots ohs 0
     zones-none =
-        record { long = refl; high = refl; put = rw (rows-none (in-skeleton net) (run 0 n)) (put-none ots ohs 0) }
+        record { long = refl; high = refl; put = rw (rows-none (in-skeleton net) (span 0 n)) (arc-put-none ots ohs 0) }
 
     module _ (v ots' ohs' : List ℕ) (a next : ℕ) (P : Rows-put w v n ts hs a ots ohs ots' ohs' next) where
       -- rows and names stand still
       pub zones-named : Named v n ts hs m
       zones-named = named-kept w v n ts hs m (P .long) (P .high) N
 
-      -- the next zone's arcs have room
-      pub zones-room : a < n → length ts ≤ length ots → length ts ≤ length ohs →
-          Roomy ots' ohs' next (skeleton-row net n a)
-      zones-room low tails-room heads-room =
-          let few = part-few (a + 1) (omega arith) in
-          let long = put-long (P .put) in
-          record {
-            tails = omega (arith, few, part-next a, long .0, P .put .behind);
-            heads = omega (arith, few, part-next a, long .1, P .put .behind);
-          }
+      -- the next zone's marks are set
+      module _ (v' : List ℕ) (Z : Zone-marked v v' n ts hs a) where
+        -- its arcs can be put
+        pub zones-markable : a < n → Row-markable v' n a
+        zones-markable low =
+            record {
+              small = N .fine .accepted .zones-most;
+              fits = omega (arith, N .room, P .long, Z .long);
+              zone = low;
+            }
 
-      -- one zone more
-      pub zones-turn : (v' ots'' ohs'' : List ℕ) (r : ℕ) → Zone-put v v' n ts hs a ots' ohs' ots'' ohs'' next r →
-          Rows-put w v' n ts hs (a + 1) ots ohs ots'' ohs'' r
-      zones-turn v' ots'' ohs'' r Z =
-          record {
-            long = Z .long ∙ P .long;
-            high = Z .high ∙ P .high;
-            put = rw (rows-next (in-skeleton net) (run 0 n) a) (put-then (P .put) (Z .put));
-          }
+        -- its arcs have room
+        pub zones-room : a < n → length ts ≤ length ots → length ts ≤ length ohs →
+            Arcs-fit ots' ohs' next (keep (marked-arc v' n) (pair-row (span 0 n) a))
+        zones-room low tails-room heads-room =
+            let few = part-few (a + 1) (omega arith) in
+            let long = put-long (P .put) in
+            rw (Z .arcs)
+            record {
+              tails = omega (arith, few, part-next a, long .0, P .put .behind);
+              heads = omega (arith, few, part-next a, long .1, P .put .behind);
+            }
+
+        -- one zone more
+        pub zones-turn : (ots'' ohs'' : List ℕ) (r : ℕ) →
+            Arcs-put ots' ohs' ots'' ohs'' next (keep (marked-arc v' n) (pair-row (span 0 n) a)) r →
+            Rows-put w v' n ts hs (a + 1) ots ohs ots'' ohs'' r
+        zones-turn ots'' ohs'' r Q =
+            let own : Arcs-put ots' ohs' ots'' ohs'' next (skeleton-row net n a) r = rw (Z .arcs) at Q in
+            record {
+              long = Z .long ∙ P .long;
+              high = Z .high ∙ P .high;
+              put = rw (rows-next (in-skeleton net) (span 0 n) a) (put-then (P .put) own);
+            }

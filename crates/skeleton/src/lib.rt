@@ -1,45 +1,48 @@
 // SKELETON: the skeleton of a network, in two lent lists. For each zone in turn the heads of its arcs are marked in
 // the work memory, and then put out in ascending order.
 ghost use mathlib.Core.Path.{_≡_};
-ghost use mathlib.Core.List.{[], _∷_, _++_};
+ghost use mathlib.Core.List.{[], _∷_};
 ghost use Prim.Native.Nat.{_+_, _≤_, _<_};
 ghost use lib.ListN.{length};
-ghost use Rattle.rules.specs.Lists.{keep, run};
+ghost use Rattle.rules.specs.Answers.{skeleton-told};
+ghost use Rattle.rules.specs.Promises.{Skeleton-promise};
+ghost use Rattle.rules.specs.Lists.{keep, span};
 ghost use Rattle.rules.specs.Network.{_⟶_};
-ghost use Rattle.rules.specs.Calls.{first-trouble, network-tests, room-test, asked-work, handed};
-ghost use Rattle.tests.specs.Tested.{tested-trouble};
 ghost use Rattle.theory.proofs.Skeletons.SkeletonRows.{pair-row};
+ghost use Rattle.workmap.specs.Map.{map-of};
 ghost use Rattle.crossings.specs.Named.{Named};
-ghost use Rattle.skeleton.specs.Putting.{marked-arc, Markable, Roomy, Put, skeleton-row, Zone-put, Rows-put};
-ghost use Rattle.skeleton.specs.Promises.{Sketchable, Sketched, Skeleton-promise};
+ghost use Rattle.skeleton.specs.Putting.{marked-arc, Row-markable, Arcs-fit, Arcs-put, Zone-marked, Rows-put};
+ghost use Rattle.skeleton.specs.Promises.{Sketchable, Sketched};
+use arranged::ready;
 use components::name_all;
 use crossings::mark_crossings;
+use intake::Tested;
 use memory::clear;
-use network::asked_work;
-use network::ready;
-use network::room_trouble;
-use network::work_trouble;
 use ring::mark_ring;
 use rules::SkeletonAnswer;
-use tests::Tested;
+use workmap::Map;
+use workmap::asked_work;
+use workmap::map_of;
 
 // Puts the arc from `a` to `b` where `b` has a mark. Answers the next free place.
 fn put(
     work: &[u16],
-    zones: usize,
+    m: Map,
     a: usize,
     b: usize,
     tails: &mut [u16],
     heads: &mut [u16],
     at: usize,
 ) -> usize
-    requires { ⌜ Markable (now work) zones a ⌝ }
-    requires { ⌜ b < zones ⌝ }
-    requires { ⌜ Roomy (now tails) (now heads) at (keep (marked-arc (now work) zones) ((a ⟶ b) ∷ [])) ⌝ }
-    ensures { λ r. ⌜ Put (now (tails .entry)) (now (heads .entry)) (now (tails .exit)) (now (heads .exit)) at
-        (keep (marked-arc (now (work .entry)) zones) ((a ⟶ b) ∷ [])) r ⌝ }
+    requires { ⌜ Row-markable (now work) (m .zones) a ⌝ }
+    requires { ⌜ b < m .zones ⌝ }
+    requires { ⌜ Arcs-fit (now tails) (now heads) at (keep (marked-arc (now work) (m .zones)) ((a ⟶ b) ∷ [])) ⌝ }
+    requires { ⌜ m ≡ map-of (m .zones) (m .arcs) ⌝ }
+    ensures { λ r. ⌜ Arcs-put (now (tails .entry)) (now (heads .entry)) (now (tails .exit)) (now (heads .exit)) at
+        (keep (marked-arc (now (work .entry)) (m .zones)) ((a ⟶ b) ∷ [])) r ⌝ }
 {
-    if work[3 * zones + b] == 0 {
+    let chosen = m.cross.chosen;
+    if work[chosen + b] == 0 {
         return at;
     }
     tails[at] = a as u16;
@@ -48,56 +51,40 @@ fn put(
 }
 
 // Puts the arcs from `a` to the zones that have marks. Answers the next free place.
-fn put_row(
-    work: &[u16],
-    zones: usize,
-    a: usize,
-    tails: &mut [u16],
-    heads: &mut [u16],
-    at: usize,
-) -> usize
-    requires { ⌜ Markable (now work) zones a ⌝ }
-    requires { ⌜ Roomy (now tails) (now heads) at (keep (marked-arc (now work) zones) (pair-row (run 0 zones) a)) ⌝ }
-    ensures { λ r. ⌜ Put (now (tails .entry)) (now (heads .entry)) (now (tails .exit)) (now (heads .exit)) at
-        (keep (marked-arc (now (work .entry)) zones) (pair-row (run 0 zones) a)) r ⌝ }
+fn put_row(work: &[u16], m: Map, a: usize, tails: &mut [u16], heads: &mut [u16], at: usize) -> usize
+    requires { ⌜ Row-markable (now work) (m .zones) a ⌝ }
+    requires { ⌜ Arcs-fit (now tails) (now heads) at
+        (keep (marked-arc (now work) (m .zones)) (pair-row (span 0 (m .zones)) a)) ⌝ }
+    requires { ⌜ m ≡ map-of (m .zones) (m .arcs) ⌝ }
+    ensures { λ r. ⌜ Arcs-put (now (tails .entry)) (now (heads .entry)) (now (tails .exit)) (now (heads .exit)) at
+        (keep (marked-arc (now (work .entry)) (m .zones)) (pair-row (span 0 (m .zones)) a)) r ⌝ }
 {
+    let zones = m.zones;
     let mut b = 0;
     let mut next = at;
     while b < zones {
-        next = put(work, zones, a, b, tails, heads, next);
+        next = put(work, m, a, b, tails, heads, next);
         b += 1;
     }
     next
 }
 
-// Puts the skeleton's arcs from the zone `a`. Answers the next free place.
-fn put_zone(
-    zones: usize,
-    tails: &[u16],
-    heads: &[u16],
-    work: &mut [u16],
-    names: usize,
-    a: usize,
-    from: &mut [u16],
-    to: &mut [u16],
-    at: usize,
-) -> usize
-    requires { ⌜ Named (now work) zones (now tails) (now heads) names ⌝ }
-    requires { ⌜ a < zones ⌝ }
-    requires { ⌜ Roomy (now from) (now to) at
-        (skeleton-row (handed zones (now tails) (now heads)) zones a) ⌝ }
-    ensures { λ r. ⌜ Zone-put (now (work .entry)) (now (work .exit)) zones (now (tails .entry)) (now (heads .entry))
-        a (now (from .entry)) (now (to .entry)) (now (from .exit)) (now (to .exit)) at r ⌝ }
+// Marks the heads of the skeleton's arcs from the zone `a`.
+fn mark_zone(m: Map, tails: &[u16], heads: &[u16], work: &mut [u16], names: usize, a: usize)
+    requires { ⌜ Named (now work) (m .zones) (now tails) (now heads) names ⌝ }
+    requires { ⌜ a < m .zones ⌝ }
+    requires { ⌜ m ≡ map-of (m .zones) (m .arcs) ⌝ }
+    ensures { λ r. ⌜ Zone-marked (now (work .entry)) (now (work .exit)) (m .zones) (now (tails .entry))
+        (now (heads .entry)) a ⌝ }
 {
-    clear(work, 4 * zones);
-    mark_crossings(tails, heads, work, zones, names, a);
-    mark_ring(work, zones, a);
-    put_row(work, zones, a, from, to, at)
+    clear(work, m.names.tops);
+    mark_crossings(tails, heads, work, m.zones, names, a);
+    mark_ring(work, m, a);
 }
 
 // Puts the skeleton's arcs, zone by zone. Answers how many there are.
 fn put_rows(
-    zones: usize,
+    m: Map,
     tails: &[u16],
     heads: &[u16],
     work: &mut [u16],
@@ -105,16 +92,19 @@ fn put_rows(
     from: &mut [u16],
     to: &mut [u16],
 ) -> usize
-    requires { ⌜ Named (now work) zones (now tails) (now heads) names ⌝ }
+    requires { ⌜ Named (now work) (m .zones) (now tails) (now heads) names ⌝ }
     requires { ⌜ length (now tails) ≤ length (now from) ⌝ }
     requires { ⌜ length (now tails) ≤ length (now to) ⌝ }
-    ensures { λ r. ⌜ Rows-put (now (work .entry)) (now (work .exit)) zones (now (tails .entry)) (now (heads .entry))
-        zones (now (from .entry)) (now (to .entry)) (now (from .exit)) (now (to .exit)) r ⌝ }
+    requires { ⌜ m ≡ map-of (m .zones) (m .arcs) ⌝ }
+    ensures { λ r. ⌜ Rows-put (now (work .entry)) (now (work .exit)) (m .zones) (now (tails .entry))
+        (now (heads .entry)) (m .zones) (now (from .entry)) (now (to .entry)) (now (from .exit)) (now (to .exit)) r ⌝ }
 {
+    let zones = m.zones;
     let mut a = 0;
     let mut next = 0;
     while a < zones {
-        next = put_zone(zones, tails, heads, work, names, a, from, to, next);
+        mark_zone(m, tails, heads, work, names, a);
+        next = put_row(work, m, a, from, to, next);
         a += 1;
     }
     next
@@ -134,37 +124,12 @@ fn sketch(
         (now (to .entry)) (now (work .entry)) r (now (from .exit)) (now (to .exit))
         (now (work .exit)) ⌝ }
 {
-    ready(zones, tails, heads, work);
-    let names = name_all(work, zones, tails.len());
-    let count = put_rows(zones, tails, heads, work, names, from, to);
+    let m = map_of(zones, tails.len());
+    ready(m, tails, heads, work);
+    let names = name_all(work, m);
+    let count = put_rows(m, tails, heads, work, names, from, to);
     clear(work, asked_work(zones, tails.len()));
     count
-}
-
-// The tests of a network, of the length of the work memory, and of the lengths of the two lists for the result.
-fn skeleton_trouble(
-    zones: usize,
-    tails: &[u16],
-    heads: &[u16],
-    from: usize,
-    to: usize,
-    lent: usize,
-) -> Tested
-    ensures { λ r. ⌜ tested-trouble r ≡ first-trouble
-        (network-tests zones (now (tails .entry)) (now (heads .entry))
-        ++ (room-test (asked-work zones (length (now (tails .entry)))) lent
-        ∷ room-test (length (now (tails .entry))) from
-        ∷ room-test (length (now (tails .entry))) to ∷ [])) ⌝ }
-{
-    let w = work_trouble(zones, tails, heads, lent);
-    if let Tested::Refused(t) = w {
-        return Tested::Refused(t);
-    }
-    let r = room_trouble(tails.len(), from);
-    if let Tested::Refused(t) = r {
-        return Tested::Refused(t);
-    }
-    room_trouble(tails.len(), to)
 }
 
 // SKELETON: the arcs of the skeleton, ascending by tail, then by head.
@@ -177,10 +142,10 @@ pub fn skeleton(
     work: &mut [u16],
 ) -> SkeletonAnswer
     ensures { λ r. ⌜ Skeleton-promise zones (now (tails .entry)) (now (heads .entry)) (now (from .entry))
-        (now (to .entry)) (now (work .entry)) r (now (from .exit)) (now (to .exit))
-        (now (work .exit)) ⌝ }
+        (now (to .entry)) (now (work .entry)) (now (from .exit)) (now (to .exit))
+        (now (work .exit)) (skeleton-told r) ⌝ }
 {
-    let t = skeleton_trouble(zones, tails, heads, from.len(), to.len(), work.len());
+    let t = intake::skeleton(zones, tails, heads, from, to, work);
     if let Tested::Refused(trouble) = t {
         return SkeletonAnswer::Refused(trouble);
     }

@@ -2,11 +2,12 @@
 // largest sizes, and every refusal. A line has the label, the number, the place, the arc count, the arcs that were
 // put, and how many elements of the work memory are not zero then. Of long lists it has how many elements were put,
 // and their sum.
+use printing::least;
+use printing::number;
+use printing::others;
+use printing::trouble;
 use rules::SkeletonAnswer;
 use rules::Trouble;
-use show::number;
-use show::others;
-use show::trouble;
 use skeleton::skeleton;
 
 // What the lent lists hold before: no zone has this number.
@@ -95,7 +96,7 @@ fn ask(
     to: &mut [u16],
     work: &mut [u16],
 ) {
-    io::write_all(1, label);
+    printing::label(label);
     io::write_all(1, b":");
     let answer = skeleton(zones, tails, heads, from, to, work);
     show_answer(answer);
@@ -114,66 +115,75 @@ fn small(label: &[u8], zones: usize, tails: &[u16], heads: &[u16]) {
     ask(label, zones, tails, heads, &mut from, &mut to, &mut work);
 }
 
-// Document 01's case J, and the skeleton of its skeleton.
-fn case_j() {
-    small(b"case J", 4, &[0, 1, 0, 2, 2, 0], &[1, 2, 2, 1, 3, 3]);
-    small(b"its skeleton", 4, &[0, 1, 1, 2], &[1, 2, 3, 1]);
+// What each row shows: document 01's case J, and the skeleton of its skeleton; small networks; each refusal, and lists
+// of any length.
+const LABELS: [[u8; 32]; 20] = [
+    *b"case J..........................",
+    *b"its skeleton....................",
+    *b"no arcs.........................",
+    *b"one zone........................",
+    *b"one arc, six times..............",
+    *b"repeats in any order............",
+    *b"one component of all zones......",
+    *b"its skeleton....................",
+    *b"two arcs beside each other......",
+    *b"one past another................",
+    *b"from a component to a lower one.",
+    *b"pair............................",
+    *b"no zones........................",
+    *b"too many zones..................",
+    *b"too many arcs...................",
+    *b"tail out of range...............",
+    *b"head out of range...............",
+    *b"self arc........................",
+    *b"room for the work...............",
+    *b"room for the arcs...............",
+];
+
+// Each row's network: its zones, how many tails and heads there are, and those. 4,097 arcs are all from 0 to 1.
+const NETWORKS: [[u16; 17]; 20] = [
+    [4, 6, 6, 0, 1, 0, 2, 2, 0, 0, 1, 2, 2, 1, 3, 3, 0],
+    [4, 4, 4, 0, 1, 1, 2, 0, 0, 0, 1, 2, 3, 1, 0, 0, 0],
+    [4, 0, 0, 0, 0, 0, 0, 0, 0, 0, 0, 0, 0, 0, 0, 0, 0],
+    [1, 0, 0, 0, 0, 0, 0, 0, 0, 0, 0, 0, 0, 0, 0, 0, 0],
+    [2, 6, 6, 0, 0, 0, 0, 0, 0, 0, 1, 1, 1, 1, 1, 1, 0],
+    [3, 6, 6, 2, 0, 2, 0, 1, 2, 0, 1, 2, 1, 2, 0, 1, 0],
+    [4, 4, 4, 3, 1, 0, 2, 0, 0, 0, 1, 0, 2, 3, 0, 0, 0],
+    [4, 4, 4, 0, 1, 2, 3, 0, 0, 0, 1, 2, 3, 0, 0, 0, 0],
+    [4, 4, 4, 0, 0, 1, 2, 0, 0, 0, 1, 2, 3, 3, 0, 0, 0],
+    [4, 5, 5, 0, 0, 1, 0, 3, 0, 0, 3, 1, 3, 2, 2, 0, 0],
+    [4, 4, 4, 2, 3, 3, 1, 0, 0, 0, 3, 2, 1, 0, 0, 0, 0],
+    [4, 2, 1, 0, 1, 0, 0, 0, 0, 0, 1, 0, 0, 0, 0, 0, 0],
+    [0, 0, 0, 0, 0, 0, 0, 0, 0, 0, 0, 0, 0, 0, 0, 0, 0],
+    [1025, 0, 0, 0, 0, 0, 0, 0, 0, 0, 0, 0, 0, 0, 0, 0, 0],
+    [2, 4097, 4097, 0, 0, 0, 0, 0, 0, 0, 0, 0, 0, 0, 0, 0, 0],
+    [3, 2, 2, 0, 3, 0, 0, 0, 0, 0, 1, 1, 0, 0, 0, 0, 0],
+    [3, 2, 2, 0, 1, 0, 0, 0, 0, 0, 1, 3, 0, 0, 0, 0, 0],
+    [3, 3, 3, 0, 1, 2, 0, 0, 0, 0, 1, 2, 2, 0, 0, 0, 0],
+    [5, 2, 2, 0, 1, 0, 0, 0, 0, 0, 1, 2, 0, 0, 0, 0, 0],
+    [4, 7, 7, 0, 0, 0, 0, 0, 0, 0, 1, 1, 1, 1, 1, 1, 1],
+];
+
+// A row.
+fn row(label: [u8; 32], given: [u16; 17]) {
+    let zones = given[0] as usize;
+    if given[1] == 4097 {
+        small(&label, zones, &[0; 4097], &[1; 4097]);
+        return;
+    }
+    let a = least(given[1] as usize, 7);
+    let b = least(given[2] as usize, 7);
+    let all = &given[..];
+    small(&label, zones, &all[3..3 + a], &all[10..10 + b]);
 }
 
-// Small networks.
-fn networks() {
-    small(b"no arcs", 4, &[], &[]);
-    small(b"one zone", 1, &[], &[]);
-    small(
-        b"one arc, six times",
-        2,
-        &[0, 0, 0, 0, 0, 0],
-        &[1, 1, 1, 1, 1, 1],
-    );
-    small(
-        b"repeats in any order",
-        3,
-        &[2, 0, 2, 0, 1, 2],
-        &[1, 2, 1, 2, 0, 1],
-    );
-    small(
-        b"one component of all zones",
-        4,
-        &[3, 1, 0, 2],
-        &[1, 0, 2, 3],
-    );
-    small(b"its skeleton", 4, &[0, 1, 2, 3], &[1, 2, 3, 0]);
-    small(
-        b"two arcs beside each other",
-        4,
-        &[0, 0, 1, 2],
-        &[1, 2, 3, 3],
-    );
-    small(b"one past another", 4, &[0, 0, 1, 0, 3], &[3, 1, 3, 2, 2]);
-    small(
-        b"from a component to a lower one",
-        4,
-        &[2, 3, 3, 1],
-        &[3, 2, 1, 0],
-    );
-}
-
-// Each refusal, and lists of any length.
-fn refusals() {
-    small(b"pair", 4, &[0, 1], &[1]);
-    small(b"no zones", 0, &[], &[]);
-    small(b"too many zones", 1025, &[], &[]);
-    small(b"too many arcs", 2, &[0; 4097], &[1; 4097]);
-    small(b"tail out of range", 3, &[0, 3], &[1, 1]);
-    small(b"head out of range", 3, &[0, 1], &[1, 3]);
-    small(b"self arc", 3, &[0, 1, 2], &[1, 2, 2]);
-    small(b"room for the work", 5, &[0, 1], &[1, 2]);
-    small(
-        b"room for the arcs",
-        4,
-        &[0, 0, 0, 0, 0, 0, 0],
-        &[1, 1, 1, 1, 1, 1, 1],
-    );
+// All rows.
+fn rows() {
+    let mut i = 0;
+    while i < 20 {
+        row(LABELS[i], NETWORKS[i]);
+        i += 1;
+    }
 }
 
 // Lists that are too short by one, though the skeleton would fit.
@@ -265,9 +275,7 @@ fn large() {
 }
 
 fn main() {
-    case_j();
-    networks();
-    refusals();
+    rows();
     rooms();
     large();
 }

@@ -1,5 +1,2 @@
--- Laws of bytes put into a buffer, of decimal digits, and of linkplan's lines.
-pub mod Puts
-pub mod Decimal
-pub mod Texts
-pub mod Links
+-- Laws of linkplan's text.
+pub mod TextLaws

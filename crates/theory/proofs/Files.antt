@@ -1,8 +1,11 @@
--- Network files and answers: from bytes to arcs and back, and nothing said twice.
+-- Network files, answers and the tests of a call: from bytes to arcs and back, and nothing said twice.
 pub mod Readings
 pub mod NumberLaws
 pub mod FileLaws
 pub mod FileCut
 pub mod CutShort
 pub mod AnswerLaws
+pub mod Outcomes
+pub mod Troubles
+pub mod Accepting
 pub mod SkeletonFile

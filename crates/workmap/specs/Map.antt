@@ -1,5 +1,5 @@
 -- Where everything stands in lent work memory, for a network of n zones and m arcs.
---   0          a search: marks, stack            or the links' starts and ends
+--   0          a search: marks, queue            or the links' starts and ends
 --   2 n        a search against the arcs         or what is entered and left, or the chain's stations, or crossings
 --   4 n        tops, names, low, roots, queue, then seen, next, order: the components, n elements each
 --              or the sources at 4 n, the sinks at 6 n, those alone at 7 n; the pairs from 8 n on; the whys at 11 n
@@ -7,6 +7,7 @@
 --   13 n + 1 + m   the starts of the turned rows, n + 1, then the turned rows, m
 -- The whole takes 14 n + 2 m + 2 elements, which is at most the 16 n + 3 m that are asked for.
 --   map-of n m   all places;   rows-at .. cross-at   the places of one pass
+--   row-places, search-places   rows and a search at places of any kind
 use Prim.Native.Nat.{ℕ, _+_, _*_}
 use Rattle.rules.specs.Calls.{asked-work}
 use Rattle.workmap.specs.declared.RowsAt.{RowsAt}
@@ -20,13 +21,29 @@ use Rattle.workmap.specs.declared.LinksAt.{LinksAt}
 use Rattle.workmap.specs.declared.CrossAt.{CrossAt}
 use Rattle.workmap.specs.declared.Map.{Map}
 
--- rows whose starts stand from `at` on, one more than there are zones, and the rows behind them
-abbrev pub rows-at : ℕ → ℕ → RowsAt
-rows-at n at = record { zones = n; starts = at; rows = at + n + 1 }
+-- rows of n zones, with their starts and the rows at two places
+abbrev pub row-places : ℕ → ℕ → ℕ → RowsAt
+row-places n starts rows = record { zones = n; starts = starts; rows = rows }
 
--- a search whose marks stand from `at` on, and its stack behind them
-abbrev pub search-at : ℕ → ℕ → SearchAt
-search-at n at = record { marks = at; stack = at + n }
+-- a search with its marks and its queue at two places
+abbrev pub search-places : ℕ → ℕ → SearchAt
+search-places marks queue = record { marks = marks; queue = queue }
+
+-- the rows: their starts, one more than there are zones, and the rows behind them
+abbrev pub rows-at : ℕ → RowsAt
+rows-at n = row-places n (12 * n) (13 * n + 1)
+
+-- the turned rows
+abbrev pub turned-at : ℕ → ℕ → RowsAt
+turned-at n m = row-places n (13 * n + 1 + m) (14 * n + 2 + m)
+
+-- a search
+abbrev pub search-at : ℕ → SearchAt
+search-at n = search-places 0 n
+
+-- a search against the arcs
+abbrev pub back-at : ℕ → SearchAt
+back-at n = search-places (2 * n) (3 * n)
 
 -- the finishing order
 abbrev pub order-at : ℕ → OrderAt
@@ -63,10 +80,10 @@ map-of n m =
       zones = n;
       arcs = m;
       asked = asked-work n m;
-      rows = rows-at n (12 * n);
-      turned = rows-at n (13 * n + 1 + m);
-      search = search-at n 0;
-      back = search-at n (2 * n);
+      rows = rows-at n;
+      turned = turned-at n m;
+      search = search-at n;
+      back = back-at n;
       order = order-at n;
       names = names-at n;
       kinds = kinds-at n;

@@ -5,8 +5,8 @@
 ghost use mathlib.Core.Path.{_≡_};
 ghost use Prim.Native.Nat.{_≤_};
 ghost use Rattle.rules.specs.Calls.{asked-work};
-ghost use Rattle.workmap.specs.Map.{rows-at, search-at, order-at, names-at, kinds-at, lists-at, pairs-at};
-ghost use Rattle.workmap.specs.Map.{links-at, cross-at, map-of};
+ghost use Rattle.workmap.specs.Map.{rows-at, turned-at, search-at, back-at, order-at, names-at, kinds-at};
+ghost use Rattle.workmap.specs.Map.{lists-at, pairs-at, links-at, cross-at, map-of};
 
 // Rows of heads: how many zones there are, and where the starts of the rows and the rows stand.
 pub struct RowsAt {
@@ -18,7 +18,7 @@ pub struct RowsAt {
 // A search: where the marks of the zones stand, and where the zones that are met.
 pub struct SearchAt {
     pub marks: usize,
-    pub stack: usize,
+    pub queue: usize,
 }
 
 // The finishing order: when each zone was seen, its next place in its row, and the order.
@@ -68,6 +68,16 @@ pub struct LinksAt {
     pub why: usize,
 }
 
+// The side on which the plan rule runs, as given or turned round: its rows, the search along them, the names of its
+// kinds, its pairs and its links.
+pub struct Side {
+    pub rows: RowsAt,
+    pub search: SearchAt,
+    pub lists: ListsAt,
+    pub pairs: PairsAt,
+    pub links: LinksAt,
+}
+
 // The arcs between components, for one of them: which an arc leads to, and which are chosen.
 pub struct CrossAt {
     pub direct: usize,
@@ -101,28 +111,49 @@ pub fn asked_work(zones: usize, arcs: usize) -> usize
     16 * zones + 3 * arcs
 }
 
-// Rows whose starts stand from `at` on, one more than there are zones, and the rows behind them.
-fn rows_at(zones: usize, at: usize) -> RowsAt
+// The rows, behind everything else: their starts, one more than there are zones, and the rows.
+fn rows_at(zones: usize) -> RowsAt
     requires { ⌜ zones ≤ 1024 ⌝ }
-    requires { ⌜ at ≤ 20000 ⌝ }
-    ensures { λ r. ⌜ r ≡ rows-at zones at ⌝ }
+    ensures { λ r. ⌜ r ≡ rows-at zones ⌝ }
 {
     RowsAt {
         zones: zones,
-        starts: at,
-        rows: at + zones + 1,
+        starts: 12 * zones,
+        rows: 13 * zones + 1,
     }
 }
 
-// A search whose marks stand from `at` on, and its stack behind them.
-fn search_at(zones: usize, at: usize) -> SearchAt
+// The turned rows, behind the rows.
+fn turned_at(zones: usize, arcs: usize) -> RowsAt
     requires { ⌜ zones ≤ 1024 ⌝ }
-    requires { ⌜ at ≤ 20000 ⌝ }
-    ensures { λ r. ⌜ r ≡ search-at zones at ⌝ }
+    requires { ⌜ arcs ≤ 4096 ⌝ }
+    ensures { λ r. ⌜ r ≡ turned-at zones arcs ⌝ }
+{
+    RowsAt {
+        zones: zones,
+        starts: 13 * zones + 1 + arcs,
+        rows: 14 * zones + 2 + arcs,
+    }
+}
+
+// A search, at the front.
+fn search_at(zones: usize) -> SearchAt
+    ensures { λ r. ⌜ r ≡ search-at zones ⌝ }
 {
     SearchAt {
-        marks: at,
-        stack: at + zones,
+        marks: 0,
+        queue: zones,
+    }
+}
+
+// A search against the arcs, behind the search.
+fn back_at(zones: usize) -> SearchAt
+    requires { ⌜ zones ≤ 1024 ⌝ }
+    ensures { λ r. ⌜ r ≡ back-at zones ⌝ }
+{
+    SearchAt {
+        marks: 2 * zones,
+        queue: 3 * zones,
     }
 }
 
@@ -223,10 +254,10 @@ pub fn map_of(zones: usize, arcs: usize) -> Map
         zones: zones,
         arcs: arcs,
         asked: asked_work(zones, arcs),
-        rows: rows_at(zones, 12 * zones),
-        turned: rows_at(zones, 13 * zones + 1 + arcs),
-        search: search_at(zones, 0),
-        back: search_at(zones, 2 * zones),
+        rows: rows_at(zones),
+        turned: turned_at(zones, arcs),
+        search: search_at(zones),
+        back: back_at(zones),
         order: order_at(zones),
         names: names_at(zones),
         kinds: kinds_at(zones),

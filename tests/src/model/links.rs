@@ -1,6 +1,6 @@
 //! The plan rule.
 
-use super::graph::{component_arcs, components, rows, Rows};
+use super::graph::{component_arcs, components, rows, Components, Rows};
 
 pub const RING: u16 = 0;
 pub const CHAIN: u16 = 1;
@@ -26,31 +26,11 @@ pub struct Plan {
 pub fn plan(zones: usize, tails: &[u16], heads: &[u16]) -> Plan {
     let forward = rows(zones, tails, heads);
     let parts = components(zones, &forward);
-    let count = parts.names.len();
-    if count == 1 {
+    if parts.names.len() == 1 {
         return Plan { sources: 0, sinks: 0, alone: 1, pairs: 0, links: Vec::new() };
     }
 
-    let mut arcs_out = vec![false; count];
-    let mut arcs_in = vec![false; count];
-    for (a, b) in component_arcs(&parts, tails, heads) {
-        arcs_out[a] = true;
-        arcs_in[b] = true;
-    }
-    let (mut sources, mut sinks, mut alone) = (Vec::new(), Vec::new(), Vec::new());
-    for zone in 0..zones {
-        let part = parts.of[zone];
-        if usize::from(parts.names[part]) != zone {
-            continue;
-        }
-        match (arcs_out[part], arcs_in[part]) {
-            (true, false) => sources.push(zone as u16),
-            (false, true) => sinks.push(zone as u16),
-            (false, false) => alone.push(zone as u16),
-            (true, true) => {}
-        }
-    }
-
+    let [sources, sinks, alone] = kinds(&parts, tails, heads);
     let (s, t) = (sources.len(), sinks.len());
     let turned = s > t;
     let (pairs, mut links) = if turned {
@@ -66,9 +46,61 @@ pub fn plan(zones: usize, tails: &[u16], heads: &[u16]) -> Plan {
     Plan { sources: s, sinks: t, alone: alone.len(), pairs, links }
 }
 
+/// The names of the sources, of the sinks and of the components alone.
+fn kinds(parts: &Components, tails: &[u16], heads: &[u16]) -> [Vec<u16>; 3] {
+    let mut arcs_out = vec![false; parts.names.len()];
+    let mut arcs_in = vec![false; parts.names.len()];
+    for (a, b) in component_arcs(parts, tails, heads) {
+        arcs_out[a] = true;
+        arcs_in[b] = true;
+    }
+    let mut kinds = [Vec::new(), Vec::new(), Vec::new()];
+    for (zone, &part) in parts.of.iter().enumerate() {
+        if usize::from(parts.names[part]) != zone {
+            continue;
+        }
+        match (arcs_out[part], arcs_in[part]) {
+            (true, false) => kinds[0].push(zone as u16),
+            (false, true) => kinds[1].push(zone as u16),
+            (false, false) => kinds[2].push(zone as u16),
+            (true, true) => {}
+        }
+    }
+    kinds
+}
+
 /// The rule for a network that is not strong and has no more sources than
 /// sinks. Gives the number of pairs and the links.
 fn rule(zones: usize, rows: &Rows, sources: &[u16], sinks: &[u16], alone: &[u16]) -> (usize, Vec<Link>) {
+    let (p, v, w) = paired(zones, rows, sources, sinks);
+    let s = v.len();
+    let mut links = Vec::new();
+    for i in 1..p {
+        links.push(Link { from: w[i - 1], to: v[i], why: RING });
+    }
+    let mut steps = Vec::new();
+    if s == 0 {
+        // No source is no sink either: all components are alone.
+        steps.extend(alone);
+        steps.push(alone[0]);
+    } else {
+        steps.push(w[p - 1]);
+        steps.extend(&w[s..]);
+        steps.extend(alone);
+        steps.push(v[0]);
+    }
+    for step in steps.windows(2) {
+        links.push(Link { from: step[0], to: step[1], why: CHAIN });
+    }
+    for i in p..s {
+        links.push(Link { from: w[i], to: v[i], why: BACK });
+    }
+    (p, links)
+}
+
+/// The number of pairs, and the sources and the sinks with those of the pairs
+/// first.
+fn paired(zones: usize, rows: &Rows, sources: &[u16], sinks: &[u16]) -> (usize, Vec<u16>, Vec<u16>) {
     let (mut v, mut w) = (Vec::new(), Vec::new());
     let mut left = Vec::new(); // unpaired sources
     let mut free = sinks.to_vec(); // unpaired sinks, ascending
@@ -97,28 +129,5 @@ fn rule(zones: usize, rows: &Rows, sources: &[u16], sinks: &[u16], alone: &[u16]
     let p = v.len();
     v.extend(left);
     w.extend(free);
-    let s = v.len();
-
-    let mut links = Vec::new();
-    for i in 1..p {
-        links.push(Link { from: w[i - 1], to: v[i], why: RING });
-    }
-    let mut steps = Vec::new();
-    if s == 0 {
-        // No source is no sink either: all components are alone.
-        steps.extend(alone);
-        steps.push(alone[0]);
-    } else {
-        steps.push(w[p - 1]);
-        steps.extend(&w[s..]);
-        steps.extend(alone);
-        steps.push(v[0]);
-    }
-    for step in steps.windows(2) {
-        links.push(Link { from: step[0], to: step[1], why: CHAIN });
-    }
-    for i in p..s {
-        links.push(Link { from: w[i], to: v[i], why: BACK });
-    }
-    (p, links)
+    (p, v, w)
 }

@@ -1,58 +1,29 @@
--- `linkplan_reach` meets its promise: what REACH answers is stored, and the work memory is as REACH leaves it.
+-- `linkplan_reach` meets its promise: what REACH answers is put, and the work memory is as REACH leaves it.
 -- Assumes nothing.
 use borrow.Author.Needs.{needs}
-use Rattle.clib.proofs.Handing.{reach-handed}
+use Rattle.rules.specs.Answers.{reach-told}
 use Rattle.clib.proofs.linkplan_reach.Statement.{statement}
 use Rattle.clib.proofs.linkplan_reach.Tie as tie
 
 reach-requires : tie.Need-reach-requires
 reach-requires c κs = search needs
 
-enum-known-yes : tie.Need-enum-known-yes
-enum-known-yes c = search needs
-
-yes-number-requires : tie.Need-yes-number-requires
-yes-number-requires c κs = search needs
-
-store-requires : tie.Need-store-requires
-store-requires c κs = search needs
-
-enum-known-t : tie.Need-enum-known-t
-enum-known-t c = search needs
-
-store-refusal-requires : tie.Need-store-refusal-requires
-store-refusal-requires c κs = search needs
+put-reach-requires : tie.Need-put-reach-requires
+put-reach-requires c κs = search needs
 
 same-length : tie.Need-same-length
 same-length c = search needs
 
 returns : tie.Need-returns
 returns c =
-    let known = c .before .before .before .before in
-    let call = known .before .before .before .before in
-    reach-handed (known .yes .given .1) (call .reach .ensures)
-    (rw (c .before .yes-number .ensures) at (c .store .ensures))
-
-same-length-2 : tie.Need-same-length-2
-same-length-2 c = search needs
-
-returns-2 : tie.Need-returns-2
-returns-2 c =
-    let known = c .before .before .before in
-    let call = known .before .before .before .before in
-    reach-handed (known .t .given .1) (call .reach .ensures) (c .store-refusal .ensures)
+    let called = c .before .before .before .before in
+    record { told = reach-told (called .reach .result); kept = called .reach .ensures; answer = c .put-reach .ensures }
 
 pub linkplan-reach-spec : {M : Type 1} → statement M
 linkplan-reach-spec =
     tie.close
     (tie.spec
     reach-requires
-    enum-known-yes
-    yes-number-requires
-    store-requires
-    enum-known-t
-    store-refusal-requires
+    put-reach-requires
     same-length
-    returns
-    same-length-2
-    returns-2)
+    returns)

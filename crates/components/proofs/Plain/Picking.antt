@@ -4,8 +4,8 @@ use mathlib.Core.Path.{_≡_, sym, ap, _∙_}
 use mathlib.Core.Logic.{inl, inr, _≢_}
 use Prim.Native.Nat.{ℕ, _+_, _<_}
 use native.Mathlib.Omega.{arith}
-use Rattle.rows.proofs.Zeros.{same?}
-use Rattle.components.specs.Gather.{Queued}
+use Rattle.arranged.proofs.Zeros.{same?}
+use Rattle.search.specs.Marking.{Queued}
 use Rattle.components.specs.Picks.{Rise, Picks}
 
 -- Nothing is picked of no elements.

@@ -11,19 +11,24 @@ use mathlib.Core.Path.{_≡_, sym, ap, _∙_}
 use mathlib.Core.Logic.{_⊎_, inl, inr, _↔_}
 use Prim.Native.Nat.{ℕ, pred, _+_, _≤_, _<_}
 use native.Mathlib.Omega.{arith}
-use Rattle.rows.specs.Rows.{Run}
-use Rattle.rows.proofs.Zeros.{same?, below?}
-use Rattle.order.specs.Order.{Ordered, Stands}
-use Rattle.order.proofs.Plain.Entries.{run-trans}
+use Rattle.arranged.specs.Rows.{Run}
+use Rattle.arranged.proofs.Zeros.{same?, below?}
+use Rattle.finishing.specs.Order.{Ended-ordered, In-order}
+use Rattle.finishing.proofs.Plain.Entries.{run-trans}
 use Rattle.components.specs.Pass.{Back, Mutual, Pass}
-use Rattle.components.proofs.Plain.Back.{back-run}
+
+-- What leads to z by free zones leads to z.
+back-run : {E : ℕ → ℕ → Type 0} {Free : ℕ → Type 0} {z y : ℕ} → Back E Free z y → Run E y z
+back-run Back.here = Run.here
+back-run (Back.further p e f) = run-trans (Run.further Run.here e) (back-run p)
 
 -- the order has its property up to place n, k is a place in it, and free zones stand no later than at k
-module _ {E : ℕ → ℕ → Type 0} (d order : ℕ → ℕ) {n k : ℕ} (P : Ordered E d order n) (inside : k < n)
-    {Free : ℕ → Type 0} (early : (v : ℕ) → Free v → Stands order (k + 1) v) where
+module _ {E : ℕ → ℕ → Type 0} (d order : ℕ → ℕ) {n k : ℕ}
+    (P : Ended-ordered E d order n) (inside : k < n)
+    {Free : ℕ → Type 0} (early : (v : ℕ) → Free v → In-order order (k + 1) v) where
   -- A free zone with an entry to a zone that was seen no earlier than the one at k was seen no earlier itself, and is
   -- reached from there.
-  back-one : (b c : ℕ) → d (order k) ≤ d b → E c b → Stands order (k + 1) c → (d (order k) ≤ d c) × Run E (order k) c
+  back-one : (b c : ℕ) → d (order k) ≤ d b → E c b → In-order order (k + 1) c → (d (order k) ≤ d c) × Run E (order k) c
   back-one b c low e s = elim (below? (s .at) k) [
     | inl l ↦ rw (sym (s .is)) (elim (P (s .at) k l inside) [
       | inl r ↦ r
@@ -46,7 +51,8 @@ free-on root closed Run.here h = h
 free-on root closed (Run.further p e) h = closed _ _ e (free-on root closed p h)
 
 -- a turn: z, at place k, is free, and root' gives its number to exactly the free zones that lead to it by free zones
-module _ {E : ℕ → ℕ → Type 0} (d order root root' : ℕ → ℕ) {n zones k z : ℕ} (P : Ordered E d order n) (inside : k < n)
+module _ {E : ℕ → ℕ → Type 0} (d order root root' : ℕ → ℕ) {n zones k z : ℕ}
+    (P : Ended-ordered E d order n) (inside : k < n)
     (entries : (u v : ℕ) → E u v → (u < zones) × (v < zones)) (zone : z < zones)
     (S : Pass E order root zones (k + 1)) (is : order k ≡ z) (free : root z ≡ 0)
     (old : (v : ℕ) → v < zones → (root v ≡ 0 → ⊥) → root' v ≡ root v)
@@ -73,7 +79,7 @@ module _ {E : ℕ → ℕ → Type 0} (d order root root' : ℕ → ℕ) {n zone
       all-z p q g (more b c f m e g)
 
   -- A free zone stands before place k.
-  taken-now : (v : ℕ) → v < zones → root' v ≡ 0 → Stands order k v
+  taken-now : (v : ℕ) → v < zones → root' v ≡ 0 → In-order order k v
   taken-now v h e =
       let s = S .taken v h (was-free v h e) in
       elim (below? (s .at) k) [
@@ -123,7 +129,7 @@ module _ {E : ℕ → ℕ → Type 0} (d order root root' : ℕ → ℕ) {n zone
 
 -- Nothing is done yet: no zone has a root, and every zone stands in the order.
 pub pass-begun : {E : ℕ → ℕ → Type 0} (order root : ℕ → ℕ) {zones n : ℕ}
-    → ((u v : ℕ) → E u v → (u < zones) × (v < zones)) → ((v : ℕ) → v < zones → Stands order n v)
+    → ((u v : ℕ) → E u v → (u < zones) × (v < zones)) → ((v : ℕ) → v < zones → In-order order n v)
     → ((v : ℕ) → v < zones → root v ≡ 0) → Pass E order root zones n
 pass-begun order root entries all clear = record {
   taken = λ v h e. all v h;
@@ -138,7 +144,7 @@ pub pass-skip : {E : ℕ → ℕ → Type 0} {order root : ℕ → ℕ} {zones k
 pass-skip {order = order} {root = root} {zones = zones} {k = k} S h =
     record { taken = taken-now; closed = S .closed; sound = S .sound; complete = S .complete }
   where
-    taken-now : (v : ℕ) → v < zones → root v ≡ 0 → Stands order k v
+    taken-now : (v : ℕ) → v < zones → root v ≡ 0 → In-order order k v
     taken-now v l e =
         let s = S .taken v l e in
         elim (below? (s .at) k) [

@@ -12,12 +12,12 @@ use lib.ListN.{length, getD, set, take, drop, length-set}
 use lib.Seq.{getD-set-same, getD-set-other, drop-set-lt, take-set-le}
 use Rattle.memory.specs.Regions.{cell}
 use Rattle.memory.proofs.Regions.{at-kept}
-use Rattle.components.specs.Names.{Noted, Nameable, Named}
+use Rattle.components.specs.Names.{Root-noted, Zones-nameable, Zones-named}
 use Rattle.components.proofs.Plain.Naming.{naming-none, naming-more}
 
 -- No zone has its name yet.
-pub named-none : {w : List ℕ} {zones names low roots : ℕ} → Nameable w zones names low roots
-    → Named w w zones names low roots 0
+pub named-none : {w : List ℕ} {zones names low roots : ℕ} → Zones-nameable w zones names low roots
+    → Zones-named w w zones names low roots 0
 named-none {w} {names = names} {low = low} {roots = roots} R = record {
   long = refl;
   front = refl;
@@ -26,8 +26,8 @@ named-none {w} {names = names} {low = low} {roots = roots} R = record {
 }
 
 -- the root number of v was read
-module _ {w₀ w : List ℕ} {zones names low roots v a : ℕ} (R : Nameable w₀ zones names low roots)
-    (N : Named w₀ w zones names low roots v) (here : v < zones) (ea : a ≡ cell w roots v) where
+module _ {w₀ w : List ℕ} {zones names low roots v a : ℕ} (R : Zones-nameable w₀ zones names low roots)
+    (N : Zones-named w₀ w zones names low roots v) (here : v < zones) (ea : a ≡ cell w roots v) where
   -- It is what it was.
   root-is : a ≡ cell w₀ roots v
   root-is = ea ∙ at-kept w₀ w roots (roots + v) (omega arith) (N .back)
@@ -41,7 +41,7 @@ module _ {w₀ w : List ℕ} {zones names low roots v a : ℕ} (R : Nameable w�
   place = omega (arith, root-some, R .before, R .fits, N .long)
 
   -- `note` is done and answers x
-  module _ {w' : List ℕ} {x : ℕ} (D : Noted w w' (low + (a - 1)) v x) where
+  module _ {w' : List ℕ} {x : ℕ} (D : Root-noted w w' (low + (a - 1)) v x) where
     -- It changes at most the note.
     noted-is : (w' ≡ w) ⊎ (w' ≡ set w (low + (a - 1)) (v + 1))
     noted-is = elim D [ inl d ↦ inl (d .1) | inr d ↦ inr (d .1 .1) ]
@@ -79,7 +79,7 @@ module _ {w₀ w : List ℕ} {zones names low roots v a : ℕ} (R : Nameable w�
     ]
 
     -- The zone v has its name.
-    pub named-more : Named w₀ (set w' (names + v) x) zones names low roots (v + 1)
+    pub named-more : Zones-named w₀ (set w' (names + v) x) zones names low roots (v + 1)
     named-more = record {
       long = length-set w' (names + v) x ∙ noted-long ∙ N .long;
       front = take-set-le names w' (names + v) x (omega arith) ∙ noted-front ∙ N .front;

@@ -10,11 +10,11 @@ use lib.ListN.{set, length-set}
 use lib.Seq.{getD-set-same, getD-set-other, drop-set-lt, take-set-le}
 use Rattle.memory.specs.Regions.{cell}
 use Rattle.memory.proofs.Regions.{at-kept}
-use Rattle.components.specs.Tops.{Pickable, Picked, Listable, Listed}
+use Rattle.components.specs.Tops.{Pickable, Top-picked, Tops-listable, Tops-listed}
 use Rattle.components.proofs.Plain.Picking.{picks-none, picks-skip, picks-more}
 
 -- Nothing is listed yet.
-pub listed-none : (w : List ℕ) (zones tops names queue : ℕ) → Listed w w zones tops names queue 0 0
+pub listed-none : (w : List ℕ) (zones tops names queue : ℕ) → Tops-listed w w zones tops names queue 0 0
 listed-none w zones tops names queue = record {
   long = refl;
   front = refl;
@@ -23,8 +23,8 @@ listed-none w zones tops names queue = record {
 }
 
 -- place n of the queue comes next
-module _ {w₀ w : List ℕ} {zones tops names queue n m : ℕ} (R : Listable w₀ zones tops names queue)
-    (N : Listed w₀ w zones tops names queue n m) (here : n < zones) where
+module _ {w₀ w : List ℕ} {zones tops names queue n m : ℕ} (R : Tops-listable w₀ zones tops names queue)
+    (N : Tops-listed w₀ w zones tops names queue n m) (here : n < zones) where
   -- It holds what it held.
   at-n : cell w queue n ≡ cell w₀ queue n
   at-n = at-kept w₀ w names (queue + n) (omega (arith, R .before)) (N .back)
@@ -42,8 +42,8 @@ module _ {w₀ w : List ℕ} {zones tops names queue n m : ℕ} (R : Listable w�
   name-n = at-kept w₀ w names (names + cell w queue n) (omega arith) (N .back) ∙ ap (cell w₀ names) at-n
 
   -- Place n of the queue is gone through.
-  pub listed-more : (w' : List ℕ) (r : ℕ) → Picked w w' names (queue + n) (tops + m) r
-      → Listed w₀ w' zones tops names queue (n + 1) (m + r)
+  pub listed-more : (w' : List ℕ) (r : ℕ) → Top-picked w w' names (queue + n) (tops + m) r
+      → Tops-listed w₀ w' zones tops names queue (n + 1) (m + r)
   listed-more w' r (inl d) = rw (d .1 .0, d .1 .1, add-zero m) (record {
     long = N .long;
     front = N .front;

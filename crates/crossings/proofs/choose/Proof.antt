@@ -2,41 +2,49 @@
 -- of the names. Assumes nothing.
 use borrow.Author.Needs.{needs}
 use native.Mathlib.Omega.{arith}
-use Prim.Native.Nat.{_+_, _*_, _≤_, _<_, _-_}
+use Prim.Native.Nat.{_+_, _≤_, _<_, _-_}
 use mathlib.Core.Path.{_≡_}
 use lib.ListN.{length}
+use Rattle.workmap.proofs.Places.{names-placed}
 use Rattle.crossings.specs.Choosing.{Choosing}
+use Rattle.crossings.specs.Named.{top-at}
 use Rattle.crossings.proofs.Trying.{choosing-none, choosing-ready, choosing-turn}
 use Rattle.crossings.proofs.choose.Statement.{statement}
 use Rattle.crossings.proofs.choose.Tie as tie
 
 abbrev Inv-loop : tie.InvT-loop
-Inv-loop work₀ zones names k₀ work k = (k ≤ names) × Choosing work₀ work zones k
+Inv-loop work₀ m names tops k₀ work k = (k ≤ names) × Choosing work₀ work (m .zones) k
 
 abbrev μ-loop : tie.MeasureT-loop
-μ-loop work₀ zones names k₀ work k = names - k
+μ-loop work₀ m names tops k₀ work k = names - k
 
 -- the next name's place lies in the memory
 inside : (c : tie.In-loop Inv-loop μ-loop) →
-    4 * c .before .before .before .args .zones + c .before .loop .k < length (c .before .loop .work)
+    c .before .before .before .args .m .names .tops + c .before .loop .k < length (c .before .loop .work)
 inside c =
-    let R = c .before .before .before .pre in
+    let s = c .before .before .before in
+    let R = s .pre .0 in
+    let p = names-placed (s .pre .1) in
     omega (arith, R .few, R .laid .order, R .laid .fits, c .before .loop .inv .1 .long)
+
+-- what is read there is the next name
+next-is : (c : tie.After-wide Inv-loop μ-loop) →
+    c .wide .result
+    ≡ top-at (c .before .before .before .loop .work) (c .before .before .before .before .before .args .m .zones)
+    (c .before .before .before .loop .k)
+next-is c = rw (names-placed (c .before .before .before .before .before .pre .1) .tops) at (c .wide .ensures)
 
 loop-holds : tie.Need-loop-holds Inv-loop μ-loop
 loop-holds c =
     let s = c .before in
     let a = s .args in
-    (search needs, choosing-none (a .work .now) (a .zones) (a .names) (s .pre))
-
-mul-wide : tie.Need-mul-wide Inv-loop μ-loop
-mul-wide c = omega (arith, inside c)
+    (search needs, choosing-none (a .work .now) (a .m .zones) (a .names) (s .pre .0))
 
 add-wide : tie.Need-add-wide Inv-loop μ-loop
 add-wide c = omega (arith, inside c)
 
-mul-wide-2 : tie.Need-mul-wide-2 Inv-loop μ-loop
-mul-wide-2 c = omega (arith, inside c)
+mul-wide : tie.Need-mul-wide Inv-loop μ-loop
+mul-wide c = omega (arith, inside c)
 
 slice-read-wide : tie.Need-slice-read-wide Inv-loop μ-loop
 slice-read-wide c = inside (c .before)
@@ -49,9 +57,12 @@ try-one-requires c κs =
     let d = c .before .before .before in
     let s = d .before .before .before in
     let a = s .args in
-    let l = d .before .loop in
-    rw (c .before .wide .ensures)
-    (choosing-ready (a .work .now) (a .zones) (a .names) (s .pre) (l .work) (l .k) (l .inv .1) (omega arith))
+    let l = d .before .loop in (
+      rw (next-is (c .before))
+          (choosing-ready (a .work .now) (a .m .zones) (a .names) (s .pre .0) (l .work) (l .k) (l .inv .1)
+          (omega arith)),
+      s .pre .1,
+    )
 
 add-k : tie.Need-add-k Inv-loop μ-loop
 add-k c = search needs
@@ -67,8 +78,8 @@ loop-again c =
     let a = s .args in
     let l = d .before .loop in (
       search needs,
-      choosing-turn (a .work .now) (a .zones) (a .names) (s .pre) (l .work) (l .k) (l .inv .1) (omega arith) _
-          (rw (e .before .before .wide .ensures) at (e .try-one .ensures)),
+      choosing-turn (a .work .now) (a .m .zones) (a .names) (s .pre .0) (l .work) (l .k) (l .inv .1) (omega arith) _
+          (rw (next-is (e .before .before)) at (e .try-one .ensures)),
     )
 
 same-length : tie.Need-same-length Inv-loop μ-loop
@@ -87,9 +98,8 @@ choose-spec =
     Inv-loop
     μ-loop
     loop-holds
-    mul-wide
     add-wide
-    mul-wide-2
+    mul-wide
     slice-read-wide
     wide-requires
     try-one-requires

@@ -10,16 +10,16 @@ use Rattle.crossings.proofs.mark_direct.Statement.{statement}
 use Rattle.crossings.proofs.mark_direct.Tie as tie
 
 abbrev Inv-loop : tie.InvT-loop
-Inv-loop work₀ zones a z₀ work z = (z ≤ zones) × Added work₀ work zones (Led work₀ zones a z)
+Inv-loop work₀ m a zones z₀ work z = (z ≤ m .zones) × Added work₀ work (m .zones) (Led work₀ (m .zones) a z)
 
 abbrev μ-loop : tie.MeasureT-loop
-μ-loop work₀ zones a z₀ work z = zones - z
+μ-loop work₀ m a zones z₀ work z = m .zones - z
 
 loop-holds : tie.Need-loop-holds Inv-loop μ-loop
 loop-holds c =
     let s = c .before in
     let a = s .args in
-    (search needs, led-none (a .work .now) (a .zones) (a .a) (s .pre .0) (s .pre .1))
+    (search needs, led-none (a .work .now) (a .m .zones) (a .a) (s .pre .0) (s .pre .1 .0))
 
 mark-row-requires : tie.Need-mark-row-requires Inv-loop μ-loop
 mark-row-requires c κs =
@@ -27,7 +27,8 @@ mark-row-requires c κs =
     let s = t .before .before in
     let a = s .args in
     let A = t .loop .inv .1 in
-    (directable-kept (a .work .now) (t .loop .work) (a .zones) (A .high) (A .long) (s .pre .0), search needs)
+    let kept = directable-kept (a .work .now) (t .loop .work) (a .m .zones) (A .high) (A .long) (s .pre .0) in
+    (kept, (search needs, s .pre .1 .1))
 
 add-z : tie.Need-add-z Inv-loop μ-loop
 add-z c = search needs
@@ -42,7 +43,7 @@ loop-again c =
     let a = t .before .before .args in
     let l = t .loop in (
       search needs,
-      led-turn (a .work .now) (a .zones) (a .a) (l .work) (l .z) (l .inv .1) _ (x .mark-row .ensures),
+      led-turn (a .work .now) (a .m .zones) (a .a) (l .work) (l .z) (l .inv .1) _ (x .mark-row .ensures),
     )
 
 same-length : tie.Need-same-length Inv-loop μ-loop
@@ -51,7 +52,7 @@ same-length c = search needs
 returns : tie.Need-returns Inv-loop μ-loop
 returns c =
     let l = c .before .loop in
-    let e : l .z ≡ c .before .before .before .args .zones = omega arith in
+    let e : l .z ≡ c .before .before .before .args .m .zones = omega arith in
     rw e at (l .inv .1)
 
 pub mark-direct-spec : {M : Type 1} → statement M

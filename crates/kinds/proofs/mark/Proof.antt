@@ -1,30 +1,26 @@
--- `mark` meets its contract. The loop's invariant: the first i arcs are noted. The measure is what is left of the arc
--- list. Assumes nothing.
+-- `kinds::mark` meets its contract. The loop's invariant: the first i arcs are noted. The measure is what is left of
+-- the arc list. Assumes nothing.
 use borrow.Author.Needs.{needs}
 use native.Mathlib.Omega.{arith}
 use mathlib.Core.Path.{_≡_}
 use Prim.Native.Nat.{_-_, _≤_, _<_}
 use lib.ListN.{length}
 use Rattle.rules.specs.Calls.{arcs-of}
-use Rattle.kinds.specs.Kinds.{Marking}
 use Rattle.theory.proofs.Ground.ArcLists.{index-arcs}
+use Rattle.kinds.specs.Kinds.{Marking}
 use Rattle.kinds.proofs.Marks.{room-around, marking-none, marking-more}
 use Rattle.kinds.proofs.mark.Statement.{statement}
 use Rattle.kinds.proofs.mark.Tie as tie
 
--- what every turn of the loop keeps
 abbrev Inv-loop : tie.InvT-loop
-Inv-loop tails heads work₀ zones i₀ work i = (i ≤ length tails) × Marking work₀ work zones (arcs-of tails heads) i
+Inv-loop at tails heads work₀ i₀ work i = (i ≤ length tails) × Marking at (arcs-of tails heads) i work₀ work
 
--- what every turn of the loop makes smaller
 abbrev μ-loop : tie.MeasureT-loop
-μ-loop tails heads work₀ zones i₀ work i = length tails - i
+μ-loop at tails heads work₀ i₀ work i = length tails - i
 
--- The invariant holds where the loop begins.
 loop-holds : tie.Need-loop-holds Inv-loop μ-loop
 loop-holds c = (omega arith, marking-none (c .before .before .before .pre))
 
--- Sums and casts keep in range, and places are inside the memory.
 mul-note : tie.Need-mul-note Inv-loop μ-loop
 mul-note c = search needs
 
@@ -37,45 +33,37 @@ mul-note-2 c = search needs
 shared-slice-read-note-2 : tie.Need-shared-slice-read-note-2 Inv-loop μ-loop
 shared-slice-read-note-2 c = search needs
 
--- What `note` asks for is so.
 note-requires : tie.Need-note-requires Inv-loop μ-loop
 note-requires c κs =
-    let i = c .before .before .before in
-    let l = i .before in
+    let l = c .before .before .before .before in
     let s = l .before .before .before .before in
     let ts = s .args .tails .now in
     let hs = s .args .heads .now in
     let a : l .loop .i < length ts = omega arith in
     let b : l .loop .i < length hs = omega (arith, s .pre .pairs) in
     let m = index-arcs ts hs (l .loop .i) a b in
-    (room-around (l .loop .inv .1 .around) (s .pre .room), (s .pre .between .tails m, s .pre .between .heads m))
+    (room-around (s .pre .room) (l .loop .inv .1 .around), (s .pre .between .tails m, s .pre .between .heads m))
 
--- Sums and casts keep in range, and places are inside the memory.
 add-i : tie.Need-add-i Inv-loop μ-loop
 add-i c = search needs
 
--- Every turn makes the measure smaller.
 loop-less : tie.Need-loop-less Inv-loop μ-loop
 loop-less c = search needs
 
--- Every turn keeps the invariant.
 loop-again : tie.Need-loop-again Inv-loop μ-loop
 loop-again c =
     let d = c .before .before in
-    let i = d .before .before .before .before in
-    let l = i .before in
+    let l = d .before .before .before .before .before in
     let s = l .before .before .before .before in
     let ts = s .args .tails .now in
     let hs = s .args .heads .now in
     let a : l .loop .i < length ts = omega arith in
     let b : l .loop .i < length hs = omega (arith, s .pre .pairs) in
-    (omega arith, marking-more ts hs a b (l .loop .inv .1) (d .note .ensures))
+    (omega arith, marking-more ts hs a b (s .pre .room) (l .loop .inv .1) (d .note .ensures))
 
--- The memory keeps its length.
 same-length : tie.Need-same-length Inv-loop μ-loop
 same-length c = search needs
 
--- What is answered is as the contract says.
 returns : tie.Need-returns Inv-loop μ-loop
 returns c =
     let l = c .before in
@@ -83,7 +71,6 @@ returns c =
     let e : l .loop .i ≡ length ts = omega (arith, c .loop-test .left, l .loop .inv .0) in
     rw e at (l .loop .inv .1)
 
--- The function meets its contract.
 pub mark-spec : {M : Type 1} → statement M
 mark-spec =
     tie.close

@@ -1,20 +1,22 @@
 -- `linkplan::put_planned` meets its contract: PLAN cannot refuse, and what is put for its answer is the plan's lines.
 -- Assumes nothing.
-use lib.ListN.{length}
-use Rattle.linkplan.specs.Buffers.{Putable, answer-lines, handed-lines}
-use Rattle.linkplan.proofs.Lines.{planned}
 use mathlib.Core.Path.{_≡_}
+use lib.ListN.{length}
+use Rattle.text.specs.Texts.{Putable, answer-lines}
+use Rattle.linkplan.specs.Buffers.{handed-lines}
+use Rattle.linkplan.proofs.Accepted.{zeros-long, plan-passes}
+use Rattle.linkplan.proofs.Lines.{planned}
 use borrow.Author.Needs.{needs}
 use Rattle.linkplan.proofs.put_planned.Statement.{statement}
 use Rattle.linkplan.proofs.put_planned.Tie as tie
 
 -- where PLAN was called
-abbrev called : tie.After-put-answer-arg4 → tie.After-plan
-called c = c .before .before .before .before .before .before .before .before .before .before .before .before
+abbrev called : tie.After-put-answer-arg → tie.After-plan
+called c = c .before .before .before .before .before .before .before .before
 
 -- the function's entry
 abbrev entry : tie.After-plan → tie.Start
-entry c = c .before .before .before .before .before .before .before .before .before .before .before .before
+entry c = c .before .before .before .before .before .before .before .before
 
 -- what is put for the answer fits, and is the lines of the plan
 made : (d : tie.After-plan) →
@@ -26,28 +28,39 @@ made : (d : tie.After-plan) →
     ≡ handed-lines (a .zones) (a .tails .now) (a .heads .now))
 made d =
     let s = entry d in
-    planned _ _ _ _ _ _ _ (s .pre .fine) (d .plan .result) (s .args .out .now) (s .pre .lines-fit) (d .plan .ensures)
+    let most = zeros-long 1024 in
+    planned _ _ _ _ _ _ _ (plan-passes _ _ _ _ _ _ _ (s .pre .fine) (zeros-long 28672) most most most)
+    (d .plan .result) (s .args .out .now) (s .pre .lines-fit) (d .plan .ensures)
+
+slice-aggregate-plan : tie.Need-slice-aggregate-plan
+slice-aggregate-plan c = search needs
+
+slice-aggregate-plan-2 : tie.Need-slice-aggregate-plan-2
+slice-aggregate-plan-2 c = search needs
+
+slice-aggregate-plan-3 : tie.Need-slice-aggregate-plan-3
+slice-aggregate-plan-3 c = search needs
+
+slice-aggregate-plan-4 : tie.Need-slice-aggregate-plan-4
+slice-aggregate-plan-4 c = search needs
 
 plan-requires : tie.Need-plan-requires
 plan-requires c κs = search needs
+
+slice-aggregate-put-answer : tie.Need-slice-aggregate-put-answer
+slice-aggregate-put-answer c = search needs
+
+slice-aggregate-put-answer-2 : tie.Need-slice-aggregate-put-answer-2
+slice-aggregate-put-answer-2 c = search needs
+
+slice-aggregate-put-answer-3 : tie.Need-slice-aggregate-put-answer-3
+slice-aggregate-put-answer-3 c = search needs
 
 put-answer-requires : tie.Need-put-answer-requires
 put-answer-requires c κs = made (called c) .0
 
 same-length : tie.Need-same-length
 same-length c = search needs
-
-same-length-2 : tie.Need-same-length-2
-same-length-2 c = search needs
-
-same-length-3 : tie.Need-same-length-3
-same-length-3 c = search needs
-
-same-length-4 : tie.Need-same-length-4
-same-length-4 c = search needs
-
-same-length-5 : tie.Need-same-length-5
-same-length-5 c = search needs
 
 returns : tie.Need-returns
 returns c =
@@ -58,11 +71,14 @@ pub put-planned-spec : {M : Type 1} → statement M
 put-planned-spec =
     tie.close
     (tie.spec
+    slice-aggregate-plan
+    slice-aggregate-plan-2
+    slice-aggregate-plan-3
+    slice-aggregate-plan-4
     plan-requires
+    slice-aggregate-put-answer
+    slice-aggregate-put-answer-2
+    slice-aggregate-put-answer-3
     put-answer-requires
     same-length
-    same-length-2
-    same-length-3
-    same-length-4
-    same-length-5
     returns)

@@ -44,14 +44,14 @@ long : (c : Counted) → length (put c .put-stations .last .0) ≡ length (start
 long c =
     let a = start c .args in
     let m = put c .put-stations in
-    memory-long (a .work .now) (a .zones) (a .n) (a .p) (start c .pre .placed) (m .last .0) (m .result) (m .ensures)
+    memory-long (a .work .now) (a .n) (a .p) (start c .pre .placed) (m .last .0) (m .result) (m .ensures)
 
 -- rings, steps and links back are no more than the zones
-few : (c : Counted) → rings c + steps c + start c .args .n .sources ≤ start c .args .zones
+few : (c : Counted) → rings c + steps c + start c .args .n .sources ≤ start c .args .p .rows .zones
 few c =
     let a = start c .args in
     let m = put c .put-stations in
-    all-few (a .work .now) (a .zones) (a .n) (a .p) (start c .pre .placed) (m .last .0) (m .result) (m .ensures)
+    all-few (a .work .now) (a .n) (a .p) (start c .pre .placed) (m .last .0) (m .result) (m .ensures)
     (start c .pre) (rings c) (steps c) (rings-is c) (steps-is c)
 
 -- the links so far are no more than a number of the machine
@@ -60,30 +60,33 @@ small c = omega (arith, few c, start c .pre .placed .why-fits)
 
 -- there is room for the rings
 ring-room : (c : Counted) (u : List ℕ) → length u ≡ length (start c .args .work .now) →
-    Joinable u (start c .args .p) (start c .args .p .w) (start c .args .p .v + 1) (rings c) 0
+    Joinable u (start c .args .p .links) (start c .args .p .pairs .seconds) (start c .args .p .pairs .firsts + 1)
+    (rings c) 0
 ring-room c =
     let a = start c .args in
     let m = put c .put-stations in
-    ring-joinable (a .work .now) (a .zones) (a .n) (a .p) (start c .pre .placed) (m .last .0) (m .result) (m .ensures)
+    ring-joinable (a .work .now) (a .n) (a .p) (start c .pre .placed) (m .last .0) (m .result) (m .ensures)
     (start c .pre) (rings c) (steps c) (rings-is c) (steps-is c)
 
 -- there is room for the chain
 chain-room : (c : Counted) (u : List ℕ) → length u ≡ length (start c .args .work .now) →
-    Joinable u (start c .args .p) (start c .args .p .stations) (start c .args .p .stations + 1) (steps c) (rings c)
+    Joinable u (start c .args .p .links) (start c .args .p .links .stations) (start c .args .p .links .stations + 1)
+    (steps c) (rings c)
 chain-room c =
     let a = start c .args in
     let m = put c .put-stations in
-    chain-joinable (a .work .now) (a .zones) (a .n) (a .p) (start c .pre .placed) (m .last .0) (m .result) (m .ensures)
+    chain-joinable (a .work .now) (a .n) (a .p) (start c .pre .placed) (m .last .0) (m .result) (m .ensures)
     (start c .pre) (rings c) (steps c) (rings-is c) (steps-is c)
 
 -- there is room for the links back
 back-room : (c : Counted) (u : List ℕ) → length u ≡ length (start c .args .work .now) →
-    Joinable u (start c .args .p) (start c .args .p .sinks) (start c .args .p .sources) (start c .args .n .sources)
+    Joinable u (start c .args .p .links) (start c .args .p .lists .sinks) (start c .args .p .pairs .lone)
+    (start c .args .n .sources)
     (rings c + steps c)
 back-room c =
     let a = start c .args in
     let m = put c .put-stations in
-    back-joinable (a .work .now) (a .zones) (a .n) (a .p) (start c .pre .placed) (m .last .0) (m .result) (m .ensures)
+    back-joinable (a .work .now) (a .n) (a .p) (start c .pre .placed) (m .last .0) (m .result) (m .ensures)
     (start c .pre) (rings c) (steps c) (rings-is c) (steps-is c)
 
 put-stations-requires : tie.Need-put-stations-requires
@@ -148,7 +151,7 @@ returns c =
     let d = e .before .before .before in
     let a = start d .args in
     let m = put d .put-stations in
-    linked (a .work .now) (a .zones) (a .n) (a .p) (start d .pre .placed) (m .last .0) (m .result) (m .ensures)
+    linked (a .work .now) (a .n) (a .p) (start d .pre .placed) (m .last .0) (m .result) (m .ensures)
     (start d .pre) (rings d) (steps d) (rings-is d) (steps-is d) (e .join .last .0) (f .join2 .last .0)
     (g .join3 .last .0) (e .join .ensures) (f .join2 .ensures) (g .join3 .ensures)
 

@@ -1,9 +1,9 @@
 -- `links::put_stations` meets its contract: its four copies put the four pieces of the stations one behind the other.
 -- Assumes nothing.
-use Prim.Native.Nat.{_+_, _*_, _≤_, min}
-use mathlib.Core.Path.{_≡_}
+use Prim.Native.Nat.{_+_, _≤_, min}
+use mathlib.Core.Path.{_≡_, _∙_}
 use lib.ListN.{length}
-use Rattle.links.specs.Linking.{first-at}
+use Rattle.links.specs.Linking.{first-at, stations-end}
 use Rattle.memory.proofs.Copies.{copied-long}
 use Rattle.links.proofs.Pieces.{first-inside, stationed}
 use borrow.Author.Needs.{needs}
@@ -40,13 +40,14 @@ first-is c = c .before .before .before .before .before .one-of2 .ensures
 
 -- the last station lies behind the stretch for the stations, and in the memory
 inside : (s : tie.Start) →
-    (s .args .p .stations + 2 * s .args .zones ≤ first-at (s .args .n .pairs) (s .args .p .v) (s .args .p .alone))
-    × (first-at (s .args .n .pairs) (s .args .p .v) (s .args .p .alone) + min 1 (s .args .n .pairs + s .args .n .alone)
+    (stations-end (s .args .p) ≤ first-at (s .args .n .pairs) (s .args .p .pairs .firsts) (s .args .p .lists .alone))
+    × (first-at (s .args .n .pairs) (s .args .p .pairs .firsts) (s .args .p .lists .alone) + min 1
+    (s .args .n .pairs + s .args .n .alone)
     ≤ length (s .args .work .now))
 inside s =
     let P = s .pre in
-    first-inside (s .args .p .stations + 2 * s .args .zones) (length (s .args .work .now)) (s .args .n .pairs)
-    (s .args .n .alone) (s .args .p .v) (s .args .p .alone) (P .v-apart) (P .alone-apart)
+    first-inside (stations-end (s .args .p)) (length (s .args .work .now)) (s .args .n .pairs)
+    (s .args .n .alone) (s .args .p .pairs .firsts) (s .args .p .lists .alone) (P .v-apart) (P .alone-apart)
     (omega (arith, P .v-fits, P .why-fits)) (omega (arith, P .alone-fit, P .why-fits))
 
 one-of-requires : tie.Need-one-of-requires
@@ -77,7 +78,10 @@ copy-requires : tie.Need-copy-requires
 copy-requires c κs = search needs
 
 add-copy-2 : tie.Need-add-copy-2
-add-copy-2 c = search needs
+add-copy-2 c =
+    let d = c .before .before .before .before .before in
+    let P = start d .pre in
+    omega (arith, P .sinks-fit, P .order, P .why-fits, start d .good .0)
 
 add-copy-3 : tie.Need-add-copy-3
 add-copy-3 c =
@@ -147,7 +151,11 @@ add-result c =
     omega (arith, last-is d, first-is d, P .room, P .alone-apart, P .alone-fit, P .why-fits, start d .good .0)
 
 same-length : tie.Need-same-length
-same-length c = search needs
+same-length c =
+    let f = three (c .before .before .before .before) in
+    let e = two f in
+    let d = one e in
+    c .before .before .copy4 .kept .0 ∙ f .copy3 .kept .0 ∙ e .copy2 .kept .0 ∙ d .copy .kept .0
 
 returns : tie.Need-returns
 returns c =
@@ -156,7 +164,7 @@ returns c =
     let e = two f in
     let d = one e in
     let a = start d .args in
-    stationed (a .work .now) (a .zones) (a .n) (a .p) (start d .pre) (d .copy .last .0) (e .copy2 .last .0)
+    stationed (a .work .now) (a .n) (a .p) (start d .pre) (d .copy .last .0) (e .copy2 .last .0)
     (f .copy3 .last .0) (c .before .before .copy4 .last .0)
     (d .before .before .before .before .before .before .before .before .one-of .result)
     (d .before .before .before .before .before .one-of2 .result)

@@ -2,72 +2,102 @@
 -- Assumes nothing.
 use borrow.Author.Needs.{needs}
 use mathlib.Core.Path.{_≡_, sym, ap, _∙_}
-use mathlib.Core.Option.{none}
 use Rattle.rules.specs.Calls.{reach-trouble}
-use Rattle.tests.specs.Tested.{tested-trouble}
+use mathlib.Core.Option.{none}
+use Rattle.intake.specs.Tested.{tested-trouble}
+use Rattle.intake.proofs.Fine.{fine-few}
+use lib.ListN.{length}
+use Rattle.workmap.specs.Map.{map-of}
+use Rattle.network.specs.Promises.{Askable}
 use Rattle.network.proofs.Answering.{reach-askable, reach-refused, reach-done}
 use Rattle.network.proofs.reach.Statement.{statement}
 use Rattle.network.proofs.reach.Tie as tie
 
--- the tests found no trouble
+-- the tests were made
+abbrev Tried : Type 0
+Tried = tie.After-reach
+
+-- the function's entry
+abbrev entry : Tried → tie.Start
+entry c = c .before .before .before .before .before
+
+-- what was found is REACH's trouble
+found : (c : Tried) →
+    let a = entry c .args in
+    reach-trouble (a .zones) (a .tails .now) (a .heads .now) (a .from) (a .to) (a .work .now)
+    ≡ tested-trouble (c .reach .result)
+found c = sym (c .reach .ensures)
+
+-- they found no trouble
 abbrev Here : Type 0
 Here = tie.After-enum-told
 
--- the function's entry
-abbrev entry : Here → tie.Start
-entry c = c .before .before .before .before .before .before
+-- where they were made
+abbrev tried : Here → Tried
+tried c = c .before .before
 
 -- there is no trouble
 none-here : (c : Here) →
-    reach-trouble (entry c .args .zones) (entry c .args .tails .now) (entry c .args .heads .now)
-    (entry c .args .work .now) (entry c .args .from) (entry c .args .to)
-    ≡ none
-unfolding reach-trouble
-none-here c = sym (c .before .before .reach-trouble .ensures) ∙ ap tested-trouble (c .enum-told .given .1)
+    let a = entry (tried c) .args in
+    reach-trouble (a .zones) (a .tails .now) (a .heads .now) (a .from) (a .to) (a .work .now) ≡ none
+none-here c = found (tried c) ∙ ap tested-trouble (c .enum-told .given .1)
 
-reach-trouble-requires : tie.Need-reach-trouble-requires
-reach-trouble-requires c κs = search needs
+reach-requires : tie.Need-reach-requires
+reach-requires c κs = search needs
 
 enum-known-t : tie.Need-enum-known-t
 enum-known-t c = search needs
 
+same-length : tie.Need-same-length
+same-length c = search needs
+
 returns : tie.Need-returns
-unfolding reach-trouble
 returns c =
     let d = c .before .before .before in
-    let a = d .before .before .before .before .args in
-    reach-refused (a .zones) (a .tails .now) (a .heads .now) (a .work .now) (a .from) (a .to)
-    (c .before .t .given .0 .0)
-    (sym (d .reach-trouble .ensures) ∙ ap tested-trouble (c .before .t .given .1))
+    let a = entry d .args in
+    reach-refused (a .zones) (a .tails .now) (a .heads .now) (a .from) (a .to) (a .work .now)
+    (c .before .t .given .0 .0) (found d ∙ ap tested-trouble (c .before .t .given .1))
 
 enum-told : tie.Need-enum-told
 enum-told c = search needs
 
-reached-requires : tie.Need-reached-requires
-reached-requires c κs =
-    let a = entry (c .before) .args in
-    reach-askable (a .zones) (a .tails .now) (a .heads .now) (a .work .now) (a .from) (a .to) (none-here (c .before))
+-- what the tests leave
+askable-here : (c : Here) →
+    let a = entry (tried c) .args in
+    Askable (map-of (a .zones) (length (a .tails .now))) (a .tails .now) (a .heads .now) (a .from) (a .to)
+    (a .work .now)
+askable-here c =
+    let a = entry (tried c) .args in
+    reach-askable (a .zones) (a .tails .now) (a .heads .now) (a .from) (a .to) (a .work .now) (none-here c)
 
-same-length : tie.Need-same-length
-same-length c = search needs
+map-of-requires : tie.Need-map-of-requires
+map-of-requires c κs = let F = askable-here c .ready .fine in (F .accepted .zones-most, fine-few F)
+
+reached-requires : tie.Need-reached-requires
+reached-requires c κs = rw (c .before .map-of .ensures) (askable-here (c .before .before))
+
+same-length-2 : tie.Need-same-length-2
+same-length-2 c = search needs
 
 returns-2 : tie.Need-returns-2
 returns-2 c =
-    let d = c .before .before in
-    let e = d .before .before in
-    let a = entry e .args in
-    reach-done (a .zones) (a .tails .now) (a .heads .now) (a .work .now) (a .from) (a .to) _ (d .reached .result)
+    let j = c .before .before in
+    let e = j .before .before .before in
+    let a = entry (tried e) .args in
+    reach-done (a .zones) (a .tails .now) (a .heads .now) (a .from) (a .to) (a .work .now) _ (j .reached .result)
     (none-here e)
-    (d .reached .ensures)
+    (rw (j .before .before .map-of .ensures) at (j .reached .ensures))
 
 pub reach-spec : {M : Type 1} → statement M
 reach-spec =
     tie.close
     (tie.spec
-    reach-trouble-requires
+    reach-requires
     enum-known-t
+    same-length
     returns
     enum-told
+    map-of-requires
     reached-requires
-    same-length
+    same-length-2
     returns-2)

@@ -5,7 +5,7 @@ use Rattle.network.proofs.sweep.Statement.{statement}
 use Rattle.network.proofs.sweep.Tie as tie
 
 search-requires : tie.Need-search-requires
-search-requires c κs = search needs
+search-requires c κs = c .before .before .pre .0
 
 all-marked-requires : tie.Need-all-marked-requires
 all-marked-requires c κs = search needs
@@ -17,8 +17,8 @@ returns : tie.Need-returns
 returns c =
     let d = c .before .before .before .before in
     let a = d .before .before .before .args in
-    swept (a .work .now) (d .search .last .0) (a .zones) (a .starts) (a .rows) (a .marks) (a .stack)
-    (c .all-marked .result) (d .before .before .before .pre .1) (d .search .ensures) (c .all-marked .ensures)
+    swept (a .work .now) (d .search .last .0) (a .rows) (a .at) (c .all-marked .result)
+    (d .before .before .before .pre .1) (d .search .ensures) (c .all-marked .ensures)
 
 pub sweep-spec : {M : Type 1} → statement M
 sweep-spec = tie.close (tie.spec search-requires all-marked-requires same-length returns)

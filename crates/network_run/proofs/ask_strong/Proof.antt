@@ -6,8 +6,8 @@ use lib.Seq.{length-take-le}
 use Rattle.network_run.proofs.ask_strong.Statement.{statement}
 use Rattle.network_run.proofs.ask_strong.Tie as tie
 
-write-all-requires : tie.Need-write-all-requires
-write-all-requires c κs = search needs
+label-requires : tie.Need-label-requires
+label-requires c κs = search needs
 
 sevens-requires : tie.Need-sevens-requires
 sevens-requires c κs = search needs
@@ -48,8 +48,8 @@ number-requires c κs = search needs
 slice-aggregate-write-all : tie.Need-slice-aggregate-write-all
 slice-aggregate-write-all c = search needs
 
-write-all-requires-2 : tie.Need-write-all-requires-2
-write-all-requires-2 c κs = search needs
+write-all-requires : tie.Need-write-all-requires
+write-all-requires c κs = search needs
 
 returns : tie.Need-returns
 returns c = search needs
@@ -58,7 +58,7 @@ pub ask-strong-spec : {M : Type 1} → statement M
 ask-strong-spec =
     tie.close
     (tie.spec
-    write-all-requires
+    label-requires
     sevens-requires
     slice-aggregate-work
     slice-relend-prefix-strong
@@ -71,5 +71,5 @@ ask-strong-spec =
     others-requires
     number-requires
     slice-aggregate-write-all
-    write-all-requires-2
+    write-all-requires
     returns)

@@ -5,12 +5,12 @@ use native.Mathlib.Omega.{arith}
 use borrow.Author.Count.{below-more}
 use borrow.Author.Needs.{needs}
 use lib.ListN.{getD}
-use Rattle.pairing.specs.Turn.{Clear}
+use Rattle.pairing.specs.Turn.{Unmarked}
 use Rattle.pairing.proofs.first_marked.Statement.{statement}
 use Rattle.pairing.proofs.first_marked.Tie as tie
 
 abbrev Inv-loop : tie.InvT-loop
-Inv-loop work marks at count i₀ i = (i ≤ count) × ((k : ℕ) → k < i → Clear work marks (getD work (at + k) 0))
+Inv-loop work marks at count i₀ i = (i ≤ count) × ((k : ℕ) → k < i → Unmarked work marks (getD work (at + k) 0))
 
 abbrev μ-loop : tie.MeasureT-loop
 μ-loop work marks at count i₀ i = count - i

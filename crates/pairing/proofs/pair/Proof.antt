@@ -4,28 +4,21 @@ use borrow.Author.Needs.{needs}
 use native.Mathlib.Omega.{arith}
 use mathlib.Core.Path.{_≡_}
 use Prim.Native.Nat.{_-_}
-use Rattle.pairing.specs.Pairs.{Places, places, Course}
+use Rattle.pairing.specs.Pairs.{Course}
 use Rattle.pairing.proofs.CourseLaws.{course-begun, course-done}
 use Rattle.pairing.proofs.pair.Statement.{statement}
 use Rattle.pairing.proofs.pair.Tie as tie
 
 abbrev Inv-loop : tie.InvT-loop
-Inv-loop work₀ zones starts rows s sources t sinks firsts seconds lone i₀ p₀ work i p =
-    Course work₀ work (places zones starts rows s sources t sinks firsts seconds lone) i p
+Inv-loop work₀ at s t i₀ p₀ work i p = Course work₀ work at s t i p
 
 abbrev μ-loop : tie.MeasureT-loop
-μ-loop work₀ zones starts rows s sources t sinks firsts seconds lone i₀ p₀ work i p = s - i
-
--- where everything stands
-abbrev layout : tie.Start Inv-loop μ-loop → Places
-layout c =
-    let a = c .args in
-    places (a .zones) (a .starts) (a .rows) (a .s) (a .sources) (a .t) (a .sinks) (a .firsts) (a .seconds) (a .lone)
+μ-loop work₀ at s t i₀ p₀ work i p = s - i
 
 loop-holds : tie.Need-loop-holds Inv-loop μ-loop
 loop-holds c =
     let e = c .before in
-    course-begun (e .args .work .now) (layout e) (e .pre)
+    course-begun (e .args .work .now) (e .args .at) (e .args .s) (e .args .t) (e .pre)
 
 settle-requires : tie.Need-settle-requires Inv-loop μ-loop
 settle-requires c κs =
@@ -55,7 +48,7 @@ returns c =
     let e = c .before .before .before in
     let l = c .before .loop in
     let all : l .i ≡ e .args .s = omega (arith, l .inv .turns, c .loop-test .left) in
-    course-done (e .args .work .now) (l .work) (layout e) (l .p) (rw all at (l .inv))
+    course-done (e .args .work .now) (l .work) (e .args .at) (e .args .s) (e .args .t) (l .p) (rw all at (l .inv))
 
 pub pair-spec : {M : Type 1} → statement M
 pair-spec =

@@ -6,10 +6,9 @@ use mathlib.Core.Path.{_≡_, refl}
 use mathlib.Core.List.{List}
 use Prim.Native.Nat.{ℕ, _+_, _-_}
 use lib.ListN.{getD, length-set}
-use Rattle.rows.specs.declared.Found.{Found}
-use Rattle.rows.specs.declared.Found.the-variants.{At, Nothing}
+use Rattle.arranged.specs.declared.Found.{Found}
+use Rattle.arranged.specs.declared.Found.the-variants.{At, Nothing}
 use Rattle.pairing.specs.Turn.{Turned}
-use Rattle.pairing.specs.Pairs.{Places, places}
 use Rattle.pairing.proofs.CourseLaws.{turnable, course-lone, course-paired}
 use Rattle.pairing.proofs.settle.Statement.{statement}
 use Rattle.pairing.proofs.settle.Tie as tie
@@ -22,15 +21,9 @@ Here = tie.After-turn
 abbrev entry : Here → tie.Start
 entry c = c .before .before .before .before .before
 
--- where everything stands
-abbrev layout : tie.Start → Places
-layout c =
-    let a = c .args in
-    places (a .zones) (a .starts) (a .rows) (a .s) (a .sources) (a .t) (a .sinks) (a .firsts) (a .seconds) (a .lone)
-
 -- the source
 abbrev source : Here → ℕ
-source c = getD (entry c .args .work .now) (entry c .args .sources + entry c .args .i) 0
+source c = getD (entry c .args .work .now) (entry c .args .at .lists .sources + entry c .args .i) 0
 
 -- what the turn has left
 abbrev after : Here → List ℕ
@@ -39,7 +32,7 @@ after c = c .turn .last .0
 -- its turn, by its answer
 turned : (c : Here) (r : Found) → c .turn .result ≡ r →
     let a = entry c .args in
-    Turned (a .work .now) (after c) (a .zones) (a .starts) (a .rows) (source c) (a .sinks) (a .t - a .p) r
+    Turned (a .work .now) (after c) (a .at .rows) (a .at .search) (source c) (a .at .lists .sinks) (a .t - a .p) r
 turned c r e = rw (c .before .before .wide .ensures, e) at (c .turn .ensures)
 
 -- it takes a sink
@@ -58,7 +51,8 @@ sink c = c .z .given .0 .0
 taken : (c : There) →
     let d = turn-of c in
     let a = entry d .args in
-    Turned (a .work .now) (after d) (a .zones) (a .starts) (a .rows) (source d) (a .sinks) (a .t - a .p) (At (sink c))
+    Turned (a .work .now) (after d) (a .at .rows) (a .at .search) (source d) (a .at .lists .sinks) (a .t - a .p)
+    (At (sink c))
 taken c = turned (turn-of c) (At (sink c)) (c .z .given .1)
 
 add-v : tie.Need-add-v
@@ -80,7 +74,8 @@ turn-requires : tie.Need-turn-requires
 turn-requires c κs =
     let e = c .before .before .before .before in
     let a = e .args in
-    turnable (e .pre .began) (a .work .now) (layout e) (a .i) (a .p) (e .pre .course) (c .before .wide .result)
+    turnable (e .pre .began) (a .work .now) (a .at) (a .s) (a .t) (a .i) (a .p) (e .pre .course)
+    (c .before .wide .result)
     (c .before .wide .ensures) (e .pre .more)
 
 enum-told : tie.Need-enum-told
@@ -106,7 +101,7 @@ returns c =
     let d = c .before .before .before .before in
     let a = entry d .args in
     λ v C.
-    course-lone v (a .work .now) (layout (entry d)) (a .i) (a .p) C (source d) refl
+    course-lone v (a .work .now) (a .at) (a .s) (a .t) (a .i) (a .p) C (source d) refl
     (entry d .pre .more) (after d) (turned d Nothing (c .enum-told .given .1))
 
 enum-known-z : tie.Need-enum-known-z
@@ -144,7 +139,7 @@ returns-2 c =
     let d = turn-of (c .before) in
     let a = entry d .args in
     λ v C.
-    course-paired v (a .work .now) (layout (entry d)) (a .i) (a .p) C (source d) refl
+    course-paired v (a .work .now) (a .at) (a .s) (a .t) (a .i) (a .p) C (source d) refl
     (entry d .pre .more) (after d) (sink (c .before)) (taken (c .before))
 
 pub settle-spec : {M : Type 1} → statement M

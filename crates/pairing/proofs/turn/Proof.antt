@@ -5,11 +5,9 @@ use mathlib.Core.List.{List}
 use Prim.Native.Nat.{ℕ, _+_, _≤_, _<_}
 use native.Mathlib.Omega.{arith}
 use lib.ListN.{length, getD}
-use Rattle.rules.specs.Lists.{cleared}
-use Rattle.rows.specs.declared.Found.the-variants.{At}
-use Rattle.search.specs.Marking.{Searched}
+use Rattle.arranged.specs.declared.Found.the-variants.{At}
 use Rattle.pairing.specs.Turn.{First-marked}
-use Rattle.pairing.proofs.TurnLaws.{searchable, lookable, turned-nothing, turned-found}
+use Rattle.pairing.proofs.TurnLaws.{Found-by, searchable, lookable, turned-nothing, turned-found}
 use Rattle.pairing.proofs.turn.Statement.{statement}
 use Rattle.pairing.proofs.turn.Tie as tie
 
@@ -28,18 +26,17 @@ marked c = c .search .last .0
 -- the marks are those of a search from cleared marks
 done : (c : Here) →
     let a = entry c .args in
-    Searched (cleared (a .zones) (a .work .now)) (marked c) (a .zones) (a .starts) (a .rows) (a .source) 0 (a .zones)
-done c = rw (c .before .before .before .before .clear .ensures) at (c .search .ensures)
+    Found-by (a .work .now) (marked c) (a .rows) (a .at) (a .source)
+done c = rw (c .before .before .before .before .fill .ensures) at (c .search .ensures)
 
 -- the look along the sinks stays within the memory
 look : (c : Here) →
     let a = entry c .args in
-    (a .at + a .left ≤ length (marked c))
-    × ((k : ℕ) → k < a .left → 0 + getD (marked c) (a .at + k) 0 < length (marked c))
+    (a .sinks + a .left ≤ length (marked c))
+    × ((k : ℕ) → k < a .left → a .at .marks + getD (marked c) (a .sinks + k) 0 < length (marked c))
 look c =
     let a = entry c .args in
-    lookable (a .work .now) (a .zones) (a .starts) (a .rows) (a .source) (a .at) (a .left) (entry c .pre) (marked c)
-    (done c)
+    lookable (a .work .now) (a .rows) (a .at) (a .source) (a .sinks) (a .left) (entry c .pre) (marked c) (done c)
 
 -- a sink is found
 abbrev There : Type 0
@@ -56,22 +53,22 @@ place c = c .j .given .0 .0
 -- it is the first of those left that has a mark
 found : (c : There) →
     let a = entry (searched c) .args in
-    First-marked (marked (searched c)) 0 (a .at) (a .left) (At (place c))
+    First-marked (marked (searched c)) (a .at .marks) (a .sinks) (a .left) (At (place c))
 found c = rw (c .j .given .1) at (c .before .before .first-marked .ensures)
 
 -- its place lies in the memory
-inside : (c : There) → entry (searched c) .args .at + place c < length (marked (searched c))
+inside : (c : There) → entry (searched c) .args .sinks + place c < length (marked (searched c))
 inside c = omega (arith, found c .0, look (searched c) .0)
 
-clear-requires : tie.Need-clear-requires
-clear-requires c κs = search needs
+fill-requires : tie.Need-fill-requires
+fill-requires c κs = search needs
 
 search-requires : tie.Need-search-requires
 search-requires c κs =
     let e = c .before .before .before .before .before .before in
     let a = e .args in
-    rw (c .before .before .before .clear .ensures)
-    (searchable (a .work .now) (a .zones) (a .starts) (a .rows) (a .source) (a .at) (a .left) (e .pre))
+    rw (c .before .before .before .fill .ensures)
+    (searchable (a .work .now) (a .rows) (a .at) (a .source) (a .sinks) (a .left) (e .pre))
 
 first-marked-requires : tie.Need-first-marked-requires
 first-marked-requires c κs = look (c .before .before .before)
@@ -86,7 +83,7 @@ returns : tie.Need-returns
 returns c =
     let d = c .before .before .before .before .before .before in
     let a = entry d .args in
-    turned-nothing (a .work .now) (a .zones) (a .starts) (a .rows) (a .source) (a .at) (a .left) (entry d .pre)
+    turned-nothing (a .work .now) (a .rows) (a .at) (a .source) (a .sinks) (a .left) (entry d .pre)
     (marked d) (done d) (rw (c .enum-told .given .1) at (c .before .before .first-marked .ensures))
 
 enum-known-j : tie.Need-enum-known-j
@@ -117,7 +114,7 @@ returns-2 c =
     let d = c .before .before .before .before .before .before .before in
     let s = searched d in
     let a = entry s .args in
-    turned-found (a .work .now) (a .zones) (a .starts) (a .rows) (a .source) (a .at) (a .left) (entry s .pre)
+    turned-found (a .work .now) (a .rows) (a .at) (a .source) (a .sinks) (a .left) (entry s .pre)
     (marked s) (done s) (c .before .before .take-out .last .0) (place d)
     (c .before .before .before .before .wide .result) (found d)
     (c .before .before .before .before .wide .ensures) (c .before .before .take-out .ensures)
@@ -126,7 +123,7 @@ pub turn-spec : {M : Type 1} → statement M
 turn-spec =
     tie.close
     (tie.spec
-    clear-requires
+    fill-requires
     search-requires
     first-marked-requires
     enum-told

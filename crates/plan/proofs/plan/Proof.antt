@@ -1,38 +1,33 @@
 -- `plan::plan` meets its contract: a trouble is refused and changes nothing, and without one the plan that was laid
 -- out is copied out, and the work memory is cleared. Assumes nothing.
-use Prim.Native.Nat.{_≤_, min}
+use Prim.Native.Nat.{_+_, _≤_}
 use mathlib.Core.Path.{_≡_, sym, ap, _∙_}
 use mathlib.Core.Option.{none}
 use lib.ListN.{length}
-use Rattle.rules.specs.Calls.{asked-work, plan-trouble}
-use Rattle.tests.specs.Tested.{tested-trouble}
-use Rattle.plan.proofs.Rooms.{plan-tested}
+use Rattle.rules.specs.Calls.{plan-trouble}
+use Rattle.workmap.proofs.Places.{placed, links-placed}
+use Rattle.intake.specs.Tested.{tested-trouble}
 use Rattle.plan.proofs.Answering.{Plannable, tests-plannable, plan-refused, plan-done}
 use borrow.Author.Needs.{needs}
+use Rattle.intake.proofs.Fine.{fine-few}
 use native.Mathlib.Omega.{arith}
 use Rattle.plan.proofs.plan.Statement.{statement}
 use Rattle.plan.proofs.plan.Tie as tie
 
 -- the tests were made
 abbrev Tried : Type 0
-Tried = tie.After-plan-trouble
+Tried = tie.After-plan
 
 -- the function's entry
 abbrev entry : Tried → tie.Start
-entry c = c .before .before .before .before .before .before .before .before .before
+entry c = c .before .before .before .before .before .before .before .before .before .before .before
 
 -- what PLAN's tests say is what was found
 found : (c : Tried) →
     plan-trouble (entry c .args .zones) (entry c .args .tails .now) (entry c .args .heads .now)
-    (entry c .args .work .now) (entry c .args .from .now) (entry c .args .to .now) (entry c .args .why .now)
-    ≡ tested-trouble (c .plan-trouble .result)
-found c =
-    let a = entry c .args in
-    let l = c .before in
-    plan-tested (a .zones) (a .tails .now) (a .heads .now) (a .work .now) (a .from .now) (a .to .now) (a .why .now)
-    (l .lesser2 .result)
-    (l .lesser2 .ensures ∙ ap (λ k. min (length (a .from .now)) k) (l .before .lesser .ensures))
-    ∙ sym (c .plan-trouble .ensures)
+    (entry c .args .from .now) (entry c .args .to .now) (entry c .args .why .now) (entry c .args .work .now)
+    ≡ tested-trouble (c .plan .result)
+found c = sym (c .plan .ensures)
 
 -- the tests found no trouble
 abbrev Here : Type 0
@@ -41,30 +36,42 @@ Here = tie.After-enum-told
 -- there is none
 none-here : (c : Here) →
     plan-trouble (entry (c .before .before) .args .zones) (entry (c .before .before) .args .tails .now)
-    (entry (c .before .before) .args .heads .now) (entry (c .before .before) .args .work .now)
-    (entry (c .before .before) .args .from .now) (entry (c .before .before) .args .to .now)
-    (entry (c .before .before) .args .why .now)
+    (entry (c .before .before) .args .heads .now) (entry (c .before .before) .args .from .now)
+    (entry (c .before .before) .args .to .now) (entry (c .before .before) .args .why .now)
+    (entry (c .before .before) .args .work .now)
     ≡ none
 none-here c = found (c .before .before) ∙ ap tested-trouble (c .enum-told .given .1)
 
 -- the input passes the tests
 plannable : (c : Here) →
     Plannable (entry (c .before .before) .args .zones) (entry (c .before .before) .args .tails .now)
-    (entry (c .before .before) .args .heads .now) (entry (c .before .before) .args .work .now)
-    (entry (c .before .before) .args .from .now) (entry (c .before .before) .args .to .now)
-    (entry (c .before .before) .args .why .now)
+    (entry (c .before .before) .args .heads .now) (entry (c .before .before) .args .from .now)
+    (entry (c .before .before) .args .to .now) (entry (c .before .before) .args .why .now)
+    (entry (c .before .before) .args .work .now)
 plannable c =
     let a = entry (c .before .before) .args in
-    tests-plannable (a .zones) (a .tails .now) (a .heads .now) (a .work .now) (a .from .now) (a .to .now) (a .why .now)
+    tests-plannable (a .zones) (a .tails .now) (a .heads .now) (a .from .now) (a .to .now) (a .why .now) (a .work .now)
     (none-here c)
+
+-- the map is made
+abbrev Mapped : Type 0
+Mapped = tie.After-map-of
+
+-- the tests, from there
+abbrev tests : Mapped → Here
+tests c = c .before
 
 -- the plan is laid out
 abbrev Laid : Type 0
 Laid = tie.After-lay
 
+-- the map, from there
+abbrev map : Laid → Mapped
+map c = c .before .before
+
 -- the tests, from there
 abbrev here : Laid → Here
-here c = c .before .before
+here c = tests (map c)
 
 -- the plan laid out, from where the starts are copied out
 abbrev one : tie.After-copy-out → Laid
@@ -78,69 +85,26 @@ two c = c .before .before .before .before .before
 abbrev three : tie.After-copy-out3 → tie.After-copy-out2
 three c = c .before .before .before .before .before
 
--- the work memory is as long as asked
-work-room : (c : Laid) →
-    asked-work (entry (here c .before .before) .args .zones)
-    (length (entry (here c .before .before) .args .tails .now))
-    ≤ length (c .lay .last .1 .1 .1 .0)
-work-room c = omega (arith, plannable (here c) .ready .room, c .lay .ensures .long)
+-- what copying the links out asks for: the columns lie in the memory, and each is as long as the plan is
+copies : (c : Laid) →
+    let m = map c .map-of .result in
+    let w = c .lay .last .1 .1 .1 .0 in
+    let k = c .lay .result .need in
+    ((m .links .from + k ≤ length w) × (m .links .to + k ≤ length w))
+    × ((m .links .why + k ≤ length w) × (k ≤ entry (here c .before .before) .args .zones))
+copies c =
+    let e = map c .map-of .ensures in
+    let p = placed e in
+    let l = links-placed e in
+    let d = c .lay .ensures in
+    let r = plannable (here c) .ready .room in
+    ((omega arith, omega arith), (omega arith, omega arith))
 
-lesser-requires : tie.Need-lesser-requires
-lesser-requires c κs = search needs
-
-lesser-requires-2 : tie.Need-lesser-requires-2
-lesser-requires-2 c κs = search needs
-
-plan-trouble-requires : tie.Need-plan-trouble-requires
-plan-trouble-requires c κs = search needs
+plan-requires : tie.Need-plan-requires
+plan-requires c κs = search needs
 
 enum-known-t : tie.Need-enum-known-t
 enum-known-t c = search needs
-
-returns : tie.Need-returns
-returns c =
-    let d = c .before .before .before in
-    let a = entry d .args in
-    plan-refused (a .zones) (a .tails .now) (a .heads .now) (a .work .now) (a .from .now) (a .to .now) (a .why .now)
-    (c .before .t .given .0 .0) (found d ∙ ap tested-trouble (c .before .t .given .1))
-
-enum-told : tie.Need-enum-told
-enum-told c = search needs
-
-lay-requires : tie.Need-lay-requires
-lay-requires c κs = plannable (c .before) .ready
-
-copy-out-requires : tie.Need-copy-out-requires
-copy-out-requires c κs =
-    let d = c .before .before .before .before in
-    let l = d .lay .ensures in
-    (omega (arith, l .few, work-room d), omega (arith, l .few, plannable (here d) .from-room))
-
-copy-out-requires-2 : tie.Need-copy-out-requires-2
-copy-out-requires-2 c κs =
-    let d = one (c .before .before .before .before) in
-    let l = d .lay .ensures in
-    (omega (arith, l .few, work-room d), omega (arith, l .few, plannable (here d) .to-room))
-
-mul-copy-out : tie.Need-mul-copy-out
-mul-copy-out c =
-    let d = one (two (c .before .before .before)) in
-    omega (arith, plannable (here d) .ready .fine .high)
-
-copy-out-requires-3 : tie.Need-copy-out-requires-3
-copy-out-requires-3 c κs =
-    let d = one (two (c .before .before .before .before)) in
-    let l = d .lay .ensures in
-    (omega (arith, l .few, work-room d), omega (arith, l .few, plannable (here d) .why-room))
-
-asked-work-requires : tie.Need-asked-work-requires
-asked-work-requires c κs =
-    let f = plannable (here (one (two (three (c .before .before .before))))) .ready .fine in
-    (f .high, f .few)
-
-clear-requires : tie.Need-clear-requires
-clear-requires c κs =
-    omega (arith, c .asked-work .ensures, work-room (one (two (three (c .before .before .before .before)))))
 
 same-length : tie.Need-same-length
 same-length c = search needs
@@ -154,38 +118,95 @@ same-length-3 c = search needs
 same-length-4 : tie.Need-same-length-4
 same-length-4 c = search needs
 
+returns : tie.Need-returns
+returns c =
+    let d = c .before .before .before in
+    let a = entry d .args in
+    plan-refused (a .zones) (a .tails .now) (a .heads .now) (a .from .now) (a .to .now) (a .why .now) (a .work .now)
+    (c .before .t .given .0 .0) (found d ∙ ap tested-trouble (c .before .t .given .1))
+
+enum-told : tie.Need-enum-told
+enum-told c = search needs
+
+map-of-requires : tie.Need-map-of-requires
+map-of-requires c κs = let f = plannable c .ready .fine in (f .accepted .zones-most, fine-few f)
+
+lay-requires : tie.Need-lay-requires
+lay-requires c κs = let m = c .before in rw (m .map-of .ensures) (plannable (tests m) .ready)
+
+copy-out-requires : tie.Need-copy-out-requires
+copy-out-requires c κs =
+    let d = c .before .before .before .before in
+    (copies d .0 .0, omega (arith, copies d .1 .1, plannable (here d) .from-room))
+
+copy-out-requires-2 : tie.Need-copy-out-requires-2
+copy-out-requires-2 c κs =
+    let d = one (c .before .before .before .before) in
+    (copies d .0 .1, omega (arith, copies d .1 .1, plannable (here d) .to-room))
+
+copy-out-requires-3 : tie.Need-copy-out-requires-3
+copy-out-requires-3 c κs =
+    let d = one (two (c .before .before .before .before)) in
+    (copies d .1 .0, omega (arith, copies d .1 .1, plannable (here d) .why-room))
+
+clear-requires : tie.Need-clear-requires
+clear-requires c κs =
+    let d = one (two (three (c .before .before .before))) in
+    let p = placed (map d .map-of .ensures) in
+    omega (arith, plannable (here d) .ready .room, d .lay .ensures .long)
+
+answer-of-requires : tie.Need-answer-of-requires
+answer-of-requires c κs = search needs
+
+same-length-5 : tie.Need-same-length-5
+same-length-5 c = search needs
+
+same-length-6 : tie.Need-same-length-6
+same-length-6 c = search needs
+
+same-length-7 : tie.Need-same-length-7
+same-length-7 c = search needs
+
+same-length-8 : tie.Need-same-length-8
+same-length-8 c = search needs
+
 returns-2 : tie.Need-returns-2
 returns-2 c =
-    let h = c .before .before in
-    let g = c .before .before .before .before .before .before .before in
+    let h = c .before .before .before in
+    let g = h .before .before .before .before in
     let f = three g in
     let e = two f in
     let d = one e in
+    let m = map d in
     let a = entry (here d .before .before) .args in
-    plan-done (a .zones) (a .tails .now) (a .heads .now) (a .work .now) (a .from .now) (a .to .now) (a .why .now)
-    (d .lay .last .1 .1 .1 .0) (h .clear .last .0) (e .copy-out .last .1 .1 .1 .0) (f .copy-out2 .last .1 .1 .1 .0)
-    (g .copy-out3 .last .1 .1 .1 .0) (d .lay .result) (none-here (here d)) (d .lay .ensures) (e .copy-out .ensures)
-    (f .copy-out2 .ensures) (g .copy-out3 .ensures) (rw (h .before .asked-work .ensures) at (h .clear .ensures))
+    plan-done (a .zones) (a .tails .now) (a .heads .now) (a .from .now) (a .to .now) (a .why .now) (a .work .now)
+    (m .map-of .result) (d .lay .last .1 .1 .1 .0) (e .copy-out .last .1 .1 .1 .0)
+    (f .copy-out2 .last .1 .1 .1 .0) (g .copy-out3 .last .1 .1 .1 .0) (h .clear .last .0)
+    (d .lay .result) (c .answer-of .result)
+    (m .map-of .ensures) (none-here (here d)) (d .lay .ensures) (c .answer-of .ensures) (e .copy-out .ensures)
+    (f .copy-out2 .ensures) (g .copy-out3 .ensures) (h .clear .ensures)
 
 pub plan-spec : {M : Type 1} → statement M
 plan-spec =
     tie.close
     (tie.spec
-    lesser-requires
-    lesser-requires-2
-    plan-trouble-requires
+    plan-requires
     enum-known-t
-    returns
-    enum-told
-    lay-requires
-    copy-out-requires
-    copy-out-requires-2
-    mul-copy-out
-    copy-out-requires-3
-    asked-work-requires
-    clear-requires
     same-length
     same-length-2
     same-length-3
     same-length-4
+    returns
+    enum-told
+    map-of-requires
+    lay-requires
+    copy-out-requires
+    copy-out-requires-2
+    copy-out-requires-3
+    clear-requires
+    answer-of-requires
+    same-length-5
+    same-length-6
+    same-length-7
+    same-length-8
     returns-2)

@@ -55,16 +55,19 @@ use denote.Triple.Clauses.{ensured, lasts}
 use denote.Triple.Walked.{says, needs, Stays, stay-slice, stay-none, stay-none-slice, walkOf, goes-slice, goes-none}
 use denote.Triple.Walked.{goes-none-slice, Walks, ends-at, walked, walk-meets}
 use denote.Exit.{yes}
-use Rattle.records.specs.Filling.{Readable, link-at, filled}
-use Rattle.records.specs.declared.Link.{Link}
-use Rattle.records.proofs.Link as T
-use Rattle.records.proofs.Link.Laws as T′
-use Rattle.records.proofs.CountedLoop.{counted-loop}
-use Rattle.records.proofs.FillLaws.{holds, fails, scaled, filled-length}
-use Rattle.records.proofs.link_at as la
-use Rattle.records.proofs.link_at.Symbol as la-def
-use Rattle.records.proofs.link_at.Symbol.{name as #records·link-at}
-use Rattle.records.proofs.link_at.Met as la-thm
+use Rattle.workmap.specs.Map.{links-at}
+use Rattle.columns.specs.Columns.{Link-stands, link-at, filled}
+use Rattle.columns.proofs.FillLaws.{filled-length}
+use Rattle.drafts.specs.Drafts.{Draft-readable}
+use Rattle.rules.specs.declared.Link.{Link}
+use Rattle.rules.proofs.Link as T
+use Rattle.rules.proofs.Link.Laws as T′
+use Rattle.walks.proofs.CountedLoop.{counted-loop}
+use Rattle.records.proofs.Turns.{holds, fails, scaled}
+use Rattle.records.proofs.link_of as la
+use Rattle.records.proofs.link_of.Symbol as la-def
+use Rattle.records.proofs.link_of.Symbol.{name as #records·link-of}
+use Rattle.records.proofs.link_of.Met as la-thm
 use Rattle.records.proofs.fill.Key.{name as #records·fill}
 use Rattle.records.proofs.fill as fill
 use Rattle.records.proofs.fill.Statement as stated
@@ -124,21 +127,20 @@ module _ {M : Type 1} (𝓤 : URA M) (H : Heap 𝓤) (A : Atoms 𝓤) (W : Given
       walkOf 𝓤 H A fill.ended stayed (fill.clauses 𝓤 H A mem run) .post
       (((κ, (κ₂, tt)), (q, (q₂, tt)), tt, x, at), tt)
 
-  -- what work owns
+  -- what work owns, and the token of its lifetime
   abbrev Own : Fml
   Own = ShrSlice (named 1) κ₂ u16 .own s (v ∷ [])
 
-  -- the token of work's lifetime
   abbrev Token : Item 𝓤
   Token = ‵ (flft κ₂ q₂) ⊛ ‵ ftrue
 
   -- the list where i records are stored
   abbrev zs : ℕ → List Link
-  zs i = filled (s .now) z xs i
+  zs i = filled (s .now) (links-at z) xs i
 
   -- its length
   same-length : (i : ℕ) → length (zs i) ≡ length xs
-  same-length i = filled-length (s .now) z xs i
+  same-length i = filled-length (s .now) (links-at z) xs i
 
   -- what the borrow of the records is at exit
   abbrev Seen : Item 𝓤
@@ -166,13 +168,13 @@ module _ {M : Type 1} (𝓤 : URA M) (H : Heap 𝓤) (A : Atoms 𝓤) (W : Given
       move ! (2 ∷ 0 ∷ []) $ fjoin ! $ move ! (1 ∷ 0 ∷ []) $ fjoin ! $ frame ! $
       feqI ! (List Val) (vunit ∷ []) (vunit ∷ []) refl $ done !
 
-  -- what `link_at`'s triple binds outside, at index i
+  -- what `link_of`'s triple binds outside, at index i
   abbrev to : ℕ → LinkAt 𝓤 H A mem run .Ghost
   to i =
       (((κ₂, tt), (q₂, tt), tt, (s, (z, (i, tt))), (v ∷ [], (vint w64 z ∷ [], (vint w64 i ∷ [], tt)))), tt)
 
-  -- what `link_at` asks
-  asked : (i : ℕ) → 11 * z + i < length (s .now) → i < 2 ^ 64 →
+  -- what `link_of` asks
+  asked : (i : ℕ) → (z ≤ 1024) × Link-stands (s .now) (links-at z) i → i < 2 ^ 64 →
       ent 𝓤 (sep 𝓤 (sep 𝓤 (A .lft κ₂ q₂) (sem 𝓤 H A ftrue)) (sem 𝓤 H A Own)) (LinkAt 𝓤 H A mem run .pre (to i))
   asked i inside i-fits =
       qed W (Token ∷ ‵ Own ∷ []) ∵ says ! inside $ frame ! $ nothing ! $
@@ -180,14 +182,14 @@ module _ {M : Type 1} (𝓤 : URA M) (H : Heap 𝓤) (A : Atoms 𝓤) (W : Given
       owned ! usize (Is usize) (uint-makes 𝓤 H A W w64) z _ (refl, z-fits) $ fjoin ! $
       move ! (1 ∷ 0 ∷ []) $ fjoin ! $ done !
 
-  -- what `link_at` says
+  -- what `link_of` says
   said : (i : ℕ) (r : Link) →
       ent 𝓤 (ensured 𝓤 H A la.ended (la.clauses 𝓤 H A mem run) (κ₂, tt) (s, (z, (i, tt))) tt r)
-      (fact 𝓤 (r ≡ link-at (s .now) z i))
+      (fact 𝓤 (r ≡ link-at (s .now) (links-at z) i))
   said i r = exE 𝓤 _ (λ ws. snd∗ 𝓤 (sem 𝓤 H A (lasts la.ended (κ₂, tt) (s, (z, (i, tt))) ws)) _)
 
-  module _ (𝓣 : Tables 𝓤 H) (known : Triple 𝓤 (𝓣 .C #records·link-at) (LinkAt 𝓤 H A mem run))
-      (gn : Room T.the-row (length xs)) (enough : n ≤ length xs) (inside : Readable (s .now) z n)
+  module _ (𝓣 : Tables 𝓤 H) (known : Triple 𝓤 (𝓣 .C #records·link-of) (LinkAt 𝓤 H A mem run))
+      (gn : Room T.the-row (length xs)) (enough : n ≤ length xs) (inside : Draft-readable (s .now) z n)
       (l₀ l₁ l₂ l₃ l₄ l₅ l₆ l₇ l₈ l₉ : ℕ) where
     -- the tables of calls and of loops
     abbrev C : Calls 𝓤 H
@@ -227,7 +229,7 @@ module _ {M : Type 1} (𝓤 : URA M) (H : Heap 𝓤) (A : Atoms 𝓤) (W : Given
 
     -- a turn that stores one record
     more : (i : ℕ) (ys : List Link) (X : SProp 𝓤) → i < n → length ys ≡ length xs →
-        ent 𝓤 (⋆ 𝓤 H A (At (suc i) (set ys i (link-at (s .now) z i)))) X →
+        ent 𝓤 (⋆ 𝓤 H A (At (suc i) (set ys i (link-at (s .now) (links-at z) i)))) X →
         ent 𝓤 (⋆ 𝓤 H A (At i ys)) (Wp 𝓤 H C Λ En Mir.turn-1 (afterTurn 𝓤 H X Left))
     unfolding afterTurn
     more i ys X small same k =
@@ -253,8 +255,8 @@ module _ {M : Type 1} (𝓤 : URA M) (H : Heap 𝓤) (A : Atoms 𝓤) (W : Given
         (Token ⊛ ‵ (T.the-row .own r (u ∷ [])))
         ⊛ raw (ensured 𝓤 H A la.ended (la.clauses 𝓤 H A mem run) (κ₂, tt) (s, (z, (i, tt))) tt r))))
         (id⊢ 𝓤 _) $ await ! tt $ pick ! (λ r.
-        split ! $ move ! (1 ∷ []) $ use1 W (raw (fact 𝓤 (r ≡ link-at (s .now) z i))) (said i r) $
-        heard ! (r ≡ link-at (s .now) z i) (λ e. split ! $ move ! (1 ∷ []) $
+        split ! $ move ! (1 ∷ []) $ use1 W (raw (fact 𝓤 (r ≡ link-at (s .now) (links-at z) i))) (said i r) $
+        heard ! (r ≡ link-at (s .now) (links-at z) i) (λ e. split ! $ move ! (1 ∷ []) $
         peeks ! T.the-row (Is T.the-row) (shows 𝓤 H A T.the-row) r (u ∷ []) (λ is.
         -- [what r owns; Token; Own; the row 3; _5 4; _9 5; _8 6; _7 7; _6 8; _4 9; _3 10; _2 11; _1 12; ..]
         land ! (from ! (stop !))
@@ -325,8 +327,8 @@ module _ {M : Type 1} (𝓤 : URA M) (H : Heap 𝓤) (A : Atoms 𝓤) (W : Given
     loops = counted-loop 𝓤 H A W 𝓣 En Mir.turn-1 Left n (λ i. ⋆ 𝓤 H A (At i (zs i))) turn ends
 
   -- the whole body
-  walk : (𝓣 : Tables 𝓤 H) → Triple 𝓤 (𝓣 .C #records·link-at) (LinkAt 𝓤 H A mem run) →
-      Room T.the-row (length xs) → Room u16 (length (s .now)) → (n ≤ length xs) × Readable (s .now) z n →
+  walk : (𝓣 : Tables 𝓤 H) → Triple 𝓤 (𝓣 .C #records·link-of) (LinkAt 𝓤 H A mem run) →
+      Room T.the-row (length xs) → Room u16 (length (s .now)) → (n ≤ length xs) × Draft-readable (s .now) z n →
       ent 𝓤 (onEntry 𝓤 H A fill.signature (κ, (κ₂, tt)) (q, (q₂, tt)) x at)
       (WpFn 𝓤 H (𝓣 .C) (𝓣 .Λ) code.function
       (sliceVal (b, o) (length xs) ∷ v ∷ vint w64 z ∷ vint w64 n ∷ []) Post)
@@ -346,7 +348,6 @@ module _ {M : Type 1} (𝓤 : URA M) (H : Heap 𝓤) (A : Atoms 𝓤) (W : Given
       assigns ! (of-opd ! (lit ! tt)) (from ! (stop !)) (init ! 8 refl (tt, record { fits = lit< tt })) $
       move ! (21 ∷ []) $ fsplit ! $ fsplit ! $ drop ! $ fsplit ! $ move ! (2 ∷ []) $ fsplit ! $
       move ! (1 ∷ []) $ drop ! $
-      -- [Own; obs; the borrow; _9 3; …; _0; …; the tokens 23]
       move ! (23 ∷ []) $ split ! $ move ! (3 ∷ 4 ∷ 0 ∷ []) $ opens-slice ! tt T.the-row xs b o $
       -- [the row; obor; obs; auth; Token; Own; _9 6; …; _0 24; …]
       keep !
@@ -355,7 +356,7 @@ module _ {M : Type 1} (𝓤 : URA M) (H : Heap 𝓤) (A : Atoms 𝓤) (W : Given
       by ! (loops 𝓣 known gn (fit .0) (fit .1) l₀ l₁ l₂ l₃ l₄ l₅ l₆ l₇ l₈ l₉)))))))))))
 
 module _ {M : Type 1} (𝓤 : URA M) (H : Heap 𝓤) (A : Atoms 𝓤) (W : Given 𝓤 H A) (mem : Memory → SProp 𝓤)
-    (run : Routine → Fun 𝓤) (𝓣 : Tables 𝓤 H) (known : Triple 𝓤 (𝓣 .C #records·link-at) (LinkAt 𝓤 H A mem run)) where
+    (run : Routine → Fun 𝓤) (𝓣 : Tables 𝓤 H) (known : Triple 𝓤 (𝓣 .C #records·link-of) (LinkAt 𝓤 H A mem run)) where
   -- the walk, at every choice of lifetimes, shares and arguments
   fill-walks : Walks 𝓤 H A fill.ended stayed (WpFn 𝓤 H (𝓣 .C) (𝓣 .Λ) code.function) (fill.clauses 𝓤 H A mem run)
   fill-walks =
@@ -366,7 +367,7 @@ module _ {M : Type 1} (𝓤 : URA M) (H : Heap 𝓤) (A : Atoms 𝓤) (W : Given
         (shr-slice-tells (named 1) (κs .1 .0) u16, (uint-tells w64, (uint-tells w64, tt))),
       ))
       (λ κs qs bounds a g are.
-      needs 𝓤 ((a .1 .1 .1 .0 ≤ length (a .0 .now)) × Readable (a .1 .0 .now) (a .1 .1 .0) (a .1 .1 .1 .0)) _
+      needs 𝓤 ((a .1 .1 .1 .0 ≤ length (a .0 .now)) × Draft-readable (a .1 .0 .now) (a .1 .1 .0) (a .1 .1 .1 .0)) _
       (walk 𝓤 H A W mem run (κs .0) (κs .1 .0) (qs .0) (qs .1 .0) (a .0 .ptr .0) (a .0 .ptr .1) (a .0 .name)
       (a .0 .now) (a .1 .0) (a .1 .1 .0) (a .1 .1 .1 .0) (are .1 .1 .0 .1) (are .1 .1 .1 .0 .1) 𝓣 known
       (are .0 .0 .1) (are .1 .0 .0 .1)))
@@ -394,5 +395,5 @@ fill-spec 𝓤 H 𝓜 𝓖 𝓡 =
     (tables 𝓤 H 𝓜 𝓡 code.env .C) (tables 𝓤 H 𝓜 𝓡 code.env .Λ) #records·fill code.function
     (code.unfolded 𝓤 H 𝓜 𝓡)
     (fill-meets 𝓤 H (𝓖 .A) (givenOf 𝓤 H 𝓜 𝓖) (𝓜 .mem) (𝓡 .run) (tablesOf 𝓤 H 𝓜 (tables 𝓤 H 𝓜 𝓡 code.env))
-    (cited 𝓤 H (LinkAt 𝓤 H (𝓖 .A) (𝓜 .mem) (𝓡 .run)) 𝓜 𝓡 code.env #records·link-at la-def.routine
-    code.calls-records·link-at (la-thm.met 𝓤 H 𝓜 𝓖 𝓡)))
+    (cited 𝓤 H (LinkAt 𝓤 H (𝓖 .A) (𝓜 .mem) (𝓡 .run)) 𝓜 𝓡 code.env #records·link-of la-def.routine
+    code.calls-records·link-of (la-thm.met 𝓤 H 𝓜 𝓖 𝓡)))

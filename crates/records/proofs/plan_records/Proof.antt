@@ -49,27 +49,29 @@ use denote.Exit.{yes}
 use Rattle.rules.specs.declared.PlanAnswer.{PlanAnswer}
 use Rattle.rules.proofs.PlanAnswer as P
 use Rattle.rules.proofs.PlanAnswer.Laws as P′
-use Rattle.records.specs.declared.Link.{Link}
-use Rattle.records.specs.Filling.{filled, need-of}
-use Rattle.records.proofs.Answering.{planned-promise}
+use Rattle.rules.specs.declared.Link.{Link}
+use Rattle.workmap.specs.Map.{links-at}
+use Rattle.columns.specs.Columns.{filled}
+use Rattle.drafts.specs.Drafts.{need-of}
+use Rattle.drafts.proofs.Answering.{drafted-promise}
 use Rattle.records.proofs.Calls.{Input, Sized, vz, vt, vh, vl, vw, OwnT, OwnH, OwnW, OwnS, Said, Ended}
 use Rattle.records.proofs.Calls.{FinishTokens, Core, NeedOf, Fill, Finish, to-core, to-need, to-fill, to-finish}
 use Rattle.records.proofs.Calls.{asks-core, asks-need, asks-fill, asks-finish, hears-core, hears-need}
 use Rattle.records.proofs.Calls.{hears-fill, hears-finish}
-use Rattle.records.proofs.Lending.{LentAgain, LentShared, lends-again, comes-back, lends-shared, shared-back}
-use Rattle.records.proofs.Link as T
-use Rattle.records.proofs.core.Symbol as co-def
-use Rattle.records.proofs.core.Symbol.{name as #records·core}
-use Rattle.records.proofs.core.Met as co-thm
-use Rattle.records.proofs.need_of.Symbol as no-def
-use Rattle.records.proofs.need_of.Symbol.{name as #records·need-of}
-use Rattle.records.proofs.need_of.Met as no-thm
+use Rattle.walks.proofs.Lending.{LentAgain, LentShared, lends-again, comes-back, lends-shared, shared-back}
+use Rattle.rules.proofs.Link as T
+use Rattle.drafts.proofs.draft.Symbol as co-def
+use Rattle.drafts.proofs.draft.Symbol.{name as #drafts·draft}
+use Rattle.drafts.proofs.draft.Met as co-thm
+use Rattle.drafts.proofs.need_of.Symbol as no-def
+use Rattle.drafts.proofs.need_of.Symbol.{name as #drafts·need-of}
+use Rattle.drafts.proofs.need_of.Met as no-thm
 use Rattle.records.proofs.fill.Symbol as fill-def
 use Rattle.records.proofs.fill.Symbol.{name as #records·fill}
 use Rattle.records.proofs.fill.Met as fill-thm
-use Rattle.records.proofs.finish.Symbol as fin-def
-use Rattle.records.proofs.finish.Symbol.{name as #records·finish}
-use Rattle.records.proofs.finish.Met as fin-thm
+use Rattle.drafts.proofs.finish.Symbol as fin-def
+use Rattle.drafts.proofs.finish.Symbol.{name as #drafts·finish}
+use Rattle.drafts.proofs.finish.Met as fin-thm
 use Rattle.records.proofs.plan_records.Key.{name as #records·plan-records}
 use Rattle.records.proofs.plan_records as pr
 use Rattle.records.proofs.plan_records.Statement as stated
@@ -131,7 +133,7 @@ module _ {M : Type 1} (𝓤 : URA M) (H : Heap 𝓤) (A : Atoms 𝓤) (W : Given
 
   -- the exit
   exits : (us : List ℕ) (n : ℕ) (r r₂ : PlanAnswer) (ls : List Link) (vs : List ℕ) (u : Val) → Said i r us →
-      n ≡ need-of r → ls ≡ filled us (i .zones) (i .links .now) n → Ended i us r r₂ vs →
+      n ≡ need-of r → ls ≡ filled us (links-at (i .zones)) (i .links .now) n → Ended i us r r₂ vs →
       length ls ≡ length (i .links .now) → length vs ≡ length (i .work .now) →
       ent 𝓤 (⋆ 𝓤 H A (Rest r₂ ls vs u)) (Post u)
   exits us n r r₂ ls vs u p e₁ e₂ e₃ long₂ long₃ =
@@ -139,7 +141,7 @@ module _ {M : Type 1} (𝓤 : URA M) (H : Heap 𝓤) (A : Atoms 𝓤) (W : Given
       suffices ! _
       (ends-at 𝓤 H A pr.ended stayed (pr.clauses 𝓤 H A mem run) W ((κs, qs, tt, x, at), tt) u r₂
       (tt, (tt, (tt, (ls, (vs, tt))))) (tt, (tt, (tt, (long₂, (long₃, tt)))))) $
-      says ! (planned-promise p e₁ e₂ e₃) $
+      says ! (drafted-promise p e₁ e₂ e₃) $
       move ! (2 ∷ 3 ∷ []) $ join ! $ move ! (2 ∷ 0 ∷ []) $ join ! $ move ! (1 ∷ 0 ∷ []) $ join ! $ frame ! $
       -- [tails; heads; the records' last list; the work memory's; the answer]
       nothing ! $ move ! (4 ∷ 0 ∷ []) $ fjoin ! $ move ! (3 ∷ 0 ∷ []) $ fjoin ! $ move ! (2 ∷ 0 ∷ []) $ fjoin ! $
@@ -149,8 +151,8 @@ module _ {M : Type 1} (𝓤 : URA M) (H : Heap 𝓤) (A : Atoms 𝓤) (W : Given
   -- the whole body. Once all locals are made, local k lies at 2 * (16 - k), and behind it that it dies; the tokens and
   -- what the arguments own lie last, and what comes in front shifts all
   walk : (C : Calls 𝓤 H) (Λ : Loops 𝓤 H) (fm : FmC 𝓤 H (W .laws) C) →
-      Triple 𝓤 (C #records·core) (Core 𝓤 H A mem run) → Triple 𝓤 (C #records·need-of) (NeedOf 𝓤 H A mem run) →
-      Triple 𝓤 (C #records·fill) (Fill 𝓤 H A mem run) → Triple 𝓤 (C #records·finish) (Finish 𝓤 H A mem run) →
+      Triple 𝓤 (C #drafts·draft) (Core 𝓤 H A mem run) → Triple 𝓤 (C #drafts·need-of) (NeedOf 𝓤 H A mem run) →
+      Triple 𝓤 (C #records·fill) (Fill 𝓤 H A mem run) → Triple 𝓤 (C #drafts·finish) (Finish 𝓤 H A mem run) →
       ent 𝓤 (onEntry 𝓤 H A pr.signature κs qs x at)
       (WpFn 𝓤 H C Λ code.function (vz i ∷ vt i ∷ vh i ∷ vl i ∷ vw i ∷ []) Post)
   walk C Λ fm known-core known-need known-fill known-finish =
@@ -288,10 +290,10 @@ module _ {M : Type 1} (𝓤 : URA M) (H : Heap 𝓤) (A : Atoms 𝓤) (W : Given
       by ! (exits us n r r₂ ls vs u₃ p e₁ e₂ e₃ long₂ (long₃ ∙ long)))))))))))))))))))))))))))))))
 
 module _ {M : Type 1} (𝓤 : URA M) (H : Heap 𝓤) (A : Atoms 𝓤) (W : Given 𝓤 H A) (mem : Memory → SProp 𝓤)
-    (run : Routine → Fun 𝓤) (𝓣 : Tables 𝓤 H) (known-core : Triple 𝓤 (𝓣 .C #records·core) (Core 𝓤 H A mem run))
-    (known-need : Triple 𝓤 (𝓣 .C #records·need-of) (NeedOf 𝓤 H A mem run))
+    (run : Routine → Fun 𝓤) (𝓣 : Tables 𝓤 H) (known-core : Triple 𝓤 (𝓣 .C #drafts·draft) (Core 𝓤 H A mem run))
+    (known-need : Triple 𝓤 (𝓣 .C #drafts·need-of) (NeedOf 𝓤 H A mem run))
     (known-fill : Triple 𝓤 (𝓣 .C #records·fill) (Fill 𝓤 H A mem run))
-    (known-finish : Triple 𝓤 (𝓣 .C #records·finish) (Finish 𝓤 H A mem run)) where
+    (known-finish : Triple 𝓤 (𝓣 .C #drafts·finish) (Finish 𝓤 H A mem run)) where
   -- what the function is handed
   abbrev input : (κs : Lfts 4) → Shares 4 → Args pr.signature κs → Input
   input κs qs a =
@@ -365,11 +367,11 @@ plan-records-spec 𝓤 H 𝓜 𝓖 𝓡 =
     (tables 𝓤 H 𝓜 𝓡 code.env .C) (tables 𝓤 H 𝓜 𝓡 code.env .Λ) #records·plan-records code.function
     (code.unfolded 𝓤 H 𝓜 𝓡)
     (plan-meets 𝓤 H (𝓖 .A) (givenOf 𝓤 H 𝓜 𝓖) (𝓜 .mem) (𝓡 .run) (tablesOf 𝓤 H 𝓜 (tables 𝓤 H 𝓜 𝓡 code.env))
-    (cited 𝓤 H (Core 𝓤 H (𝓖 .A) (𝓜 .mem) (𝓡 .run)) 𝓜 𝓡 code.env #records·core co-def.routine
-    code.calls-records·core (co-thm.met 𝓤 H 𝓜 𝓖 𝓡))
-    (cited 𝓤 H (NeedOf 𝓤 H (𝓖 .A) (𝓜 .mem) (𝓡 .run)) 𝓜 𝓡 code.env #records·need-of no-def.routine
-    code.calls-records·need-of (no-thm.met 𝓤 H 𝓜 𝓖 𝓡))
+    (cited 𝓤 H (Core 𝓤 H (𝓖 .A) (𝓜 .mem) (𝓡 .run)) 𝓜 𝓡 code.env #drafts·draft co-def.routine
+    code.calls-drafts·draft (co-thm.met 𝓤 H 𝓜 𝓖 𝓡))
+    (cited 𝓤 H (NeedOf 𝓤 H (𝓖 .A) (𝓜 .mem) (𝓡 .run)) 𝓜 𝓡 code.env #drafts·need-of no-def.routine
+    code.calls-drafts·need-of (no-thm.met 𝓤 H 𝓜 𝓖 𝓡))
     (cited 𝓤 H (Fill 𝓤 H (𝓖 .A) (𝓜 .mem) (𝓡 .run)) 𝓜 𝓡 code.env #records·fill fill-def.routine
     code.calls-records·fill (fill-thm.met 𝓤 H 𝓜 𝓖 𝓡))
-    (cited 𝓤 H (Finish 𝓤 H (𝓖 .A) (𝓜 .mem) (𝓡 .run)) 𝓜 𝓡 code.env #records·finish fin-def.routine
-    code.calls-records·finish (fin-thm.met 𝓤 H 𝓜 𝓖 𝓡)))
+    (cited 𝓤 H (Finish 𝓤 H (𝓖 .A) (𝓜 .mem) (𝓡 .run)) 𝓜 𝓡 code.env #drafts·finish fin-def.routine
+    code.calls-drafts·finish (fin-thm.met 𝓤 H 𝓜 𝓖 𝓡)))

@@ -1,5 +1,7 @@
 -- `ring::mark_ring` meets its contract: the mark of the zone that follows is set, where there is one. Assumes nothing.
 use borrow.Author.Needs.{needs}
+use native.Mathlib.Omega.{arith}
+use Rattle.workmap.proofs.Places.{cross-placed}
 use Rattle.ring.proofs.Marking.{ringed-none, ringed-set}
 use Rattle.ring.proofs.mark_ring.Statement.{statement}
 use Rattle.ring.proofs.mark_ring.Tie as tie
@@ -15,19 +17,22 @@ returns c =
     let s = c .before .before .before .before in
     let a = s .args in
     let r = c .before .next-in-ring in
-    ringed-none (a .work .now) (a .zones) (a .a) (r .result) (s .pre) (r .ensures) (c .if1 .taken)
-
-mul-work : tie.Need-mul-work
-mul-work c = search needs
+    ringed-none (a .work .now) (a .m .zones) (a .a) (r .result) (s .pre .0) (r .ensures) (c .if1 .taken)
 
 add-work : tie.Need-add-work
-add-work c = search needs
+add-work c =
+    let s = c .before .before .before .before in
+    omega (arith, s .pre .0 .fits, c .if1 .left, cross-placed (s .pre .1) .chosen)
 
-mul-work-2 : tie.Need-mul-work-2
-mul-work-2 c = search needs
+mul-work : tie.Need-mul-work
+mul-work c =
+    let s = c .before .before .before .before in
+    omega (arith, s .pre .0 .fits, c .if1 .left, cross-placed (s .pre .1) .chosen)
 
 slice-write-work : tie.Need-slice-write-work
-slice-write-work c = search needs
+slice-write-work c =
+    let s = c .before .before .before .before in
+    omega (arith, s .pre .0 .fits, c .if1 .left, cross-placed (s .pre .1) .chosen)
 
 same-length-2 : tie.Need-same-length-2
 same-length-2 c = search needs
@@ -37,7 +42,8 @@ returns-2 c =
     let s = c .before .before .before .before in
     let a = s .args in
     let r = c .before .next-in-ring in
-    ringed-set (a .work .now) (a .zones) (a .a) (r .result) (s .pre) (r .ensures) (c .if1 .left)
+    rw (cross-placed (s .pre .1) .chosen)
+    (ringed-set (a .work .now) (a .m .zones) (a .a) (r .result) (s .pre .0) (r .ensures) (c .if1 .left))
 
 pub mark-ring-spec : {M : Type 1} → statement M
 mark-ring-spec =
@@ -46,9 +52,8 @@ mark-ring-spec =
     next-in-ring-requires
     same-length
     returns
-    mul-work
     add-work
-    mul-work-2
+    mul-work
     slice-write-work
     same-length-2
     returns-2)

@@ -5,43 +5,48 @@ use native.Mathlib.Omega.{arith}
 use Prim.Native.Nat.{ℕ, _≤_, _<_, _-_}
 use mathlib.Core.Path.{_≡_, ap, _∙_}
 use mathlib.Core.Logic.{⊎-elim}
-use Rattle.rows.proofs.Zeros.{below?}
+use Rattle.arranged.proofs.Zeros.{below?}
+use Rattle.workmap.proofs.Places.{names-placed}
 use Rattle.crossings.specs.Named.{name-at}
 use Rattle.ring.proofs.next_above.Statement.{statement}
 use Rattle.ring.proofs.next_above.Tie as tie
 
 abbrev Inv-loop : tie.InvT-loop
-Inv-loop work zones a name b₀ b =
+Inv-loop work a name zones names b₀ b =
     (a < b) × ((b ≤ zones) × ((k : ℕ) → a < k → k < b → name-at work zones k ≡ name → ⊥))
 
 abbrev μ-loop : tie.MeasureT-loop
-μ-loop work zones a name b₀ b = zones - b
+μ-loop work a name zones names b₀ b = zones - b
 
 add-b : tie.Need-add-b Inv-loop μ-loop
-add-b c = omega (arith, c .pre .small, c .pre .zone)
+add-b c = omega (arith, c .pre .0 .small, c .pre .0 .zone)
 
 loop-holds : tie.Need-loop-holds Inv-loop μ-loop
-loop-holds c = (omega arith, (omega (arith, c .pre .zone), λ k l h e. omega arith))
-
-mul-if1 : tie.Need-mul-if1 Inv-loop μ-loop
-mul-if1 c = omega (arith, c .before .before .pre .fits)
+loop-holds c = (omega arith, (omega (arith, c .pre .0 .zone), λ k l h e. omega arith))
 
 add-if1 : tie.Need-add-if1 Inv-loop μ-loop
-add-if1 c = omega (arith, c .before .before .pre .fits)
+add-if1 c =
+    let s = c .before .before in
+    omega (arith, s .pre .0 .fits, names-placed (s .pre .1) .names)
 
-mul-if1-2 : tie.Need-mul-if1-2 Inv-loop μ-loop
-mul-if1-2 c = omega (arith, c .before .before .pre .fits)
+mul-if1 : tie.Need-mul-if1 Inv-loop μ-loop
+mul-if1 c =
+    let s = c .before .before in
+    omega (arith, s .pre .0 .fits, names-placed (s .pre .1) .names)
 
 shared-slice-read-if1 : tie.Need-shared-slice-read-if1 Inv-loop μ-loop
-shared-slice-read-if1 c = omega (arith, c .before .before .before .pre .fits)
+shared-slice-read-if1 c =
+    let s = c .before .before .before in
+    omega (arith, s .pre .0 .fits, names-placed (s .pre .1) .names)
 
 returns : tie.Need-returns Inv-loop μ-loop
 returns c =
     let l = c .before .before .before .loop in
+    let s = c .before .before .before .before in
     record {
       above = l .inv .0;
       high = l .inv .1 .0;
-      is = λ h. c .if1 .taken;
+      is = λ h. rw (names-placed (s .pre .1) .names) at (c .if1 .taken);
       least = l .inv .1 .1;
     }
 
@@ -55,7 +60,9 @@ loop-again : tie.Need-loop-again Inv-loop μ-loop
 loop-again c =
     let s = c .before .before .before .before in
     let a = s .args in
-    let l = c .before .before .before .loop in (
+    let l = c .before .before .before .loop in
+    let other : name-at (a .work .now) (a .m .zones) (l .b) ≡ a .name → ⊥ =
+    rw (names-placed (s .pre .1) .names) at (c .if1 .left) in (
       omega (arith, l .inv .0),
       (
         omega arith,
@@ -63,7 +70,7 @@ loop-again c =
             ⊎-elim
             (λ u. l .inv .1 .1 k low u e)
             (λ (u : l .b ≤ k).
-            c .if1 .left (ap (λ (j : ℕ). name-at (a .work .now) (a .zones) j) (omega arith) ∙ e))
+            other (ap (λ (j : ℕ). name-at (a .work .now) (a .m .zones) j) (omega arith) ∙ e))
             (below? k (l .b)),
       ),
     )
@@ -72,7 +79,7 @@ returns-2 : tie.Need-returns-2 Inv-loop μ-loop
 returns-2 c =
     let l = c .before .loop in
     record {
-      above = omega (arith, c .before .before .pre .zone);
+      above = omega (arith, c .before .before .pre .0 .zone);
       high = omega arith;
       is = λ h. absurd (omega arith);
       least = λ k low high. l .inv .1 .1 k low (omega (arith, c .loop-test .left));
@@ -86,9 +93,8 @@ next-above-spec =
     μ-loop
     add-b
     loop-holds
-    mul-if1
     add-if1
-    mul-if1-2
+    mul-if1
     shared-slice-read-if1
     returns
     add-b-2

@@ -1,82 +1,105 @@
--- `search::drain` meets its contract: the search stays what it is, and its stack empties. The measure is the stack's
--- height and twice the clear marks: a turn takes one zone off, and each that it puts on takes a clear mark.
--- Assumes nothing.
+-- `search::drain` meets its contract: any search that has met one zone goes on, row by row of its queue. The measure
+-- is what is left of the queue's room. Assumes nothing.
 use borrow.Author.Needs.{needs}
 use native.Mathlib.Omega.{arith}
-use Prim.Native.Nat.{ℕ, _+_, _*_, _<_, _-_}
-use mathlib.Core.Path.{_≡_, refl, sym}
+use mathlib.Core.List.{List}
+use Prim.Native.Nat.{ℕ, _+_, _≤_, _<_, _-_}
+use mathlib.Core.Path.{_≡_, refl, _∙_}
 use lib.ListN.{length, getD}
-use Rattle.rows.specs.Marks.{zeros}
-use Rattle.search.specs.Marking.{Searching, Visitable}
-use Rattle.search.proofs.Course.{visitable, turn, z-zone}
+use Rattle.search.specs.Marking.{Spreading, Visitable}
+use Rattle.search.proofs.Course.{laid-fits, laid-now, tail-few, head-zone, head-visitable, spreading-next}
 use Rattle.search.proofs.drain.Statement.{statement}
 use Rattle.search.proofs.drain.Tie as tie
 
 abbrev Inv-loop : tie.InvT-loop
-Inv-loop work₀ zones starts rows from marks stack top₀ work top =
-    Searching work₀ work zones starts rows from marks stack top
+Inv-loop work₀ rows at x top head₀ tail₀ work head tail =
+    (top < tail)
+    × ((length work ≡ length work₀)
+    × ((v : List ℕ) (from : ℕ) → Spreading v work₀ rows at from x top top (top + 1) →
+    Spreading v work rows at from x top head tail))
 
 abbrev μ-loop : tie.MeasureT-loop
-μ-loop work₀ zones starts rows from marks stack top₀ work top = top + 2 * zeros work marks zones
+μ-loop work₀ rows at x top head₀ tail₀ work head tail = rows .zones - head
 
--- a zone has been taken off the stack
+-- the loop's turn
+abbrev Turn : Type 0
+Turn = tie.In-loop Inv-loop μ-loop
+
+-- the function's entry
+abbrev entry : Turn → tie.Start Inv-loop μ-loop
+entry c = c .before .before .before
+
+-- the search that is under way
+course : (c : Turn) →
+    let s = entry c in
+    let l = c .before .loop in
+    Spreading (s .pre .began) (l .work) (s .args .rows) (s .args .at) (s .pre .from) (s .args .x) (s .args .top)
+    (l .head) (l .tail)
+course c = let U = entry c .pre in c .before .loop .inv .1 .1 (U .began) (U .from) (U .course)
+
+-- the place of the queue's zone lies in the work memory
+spot : (c : Turn) → entry c .args .at .queue + c .before .loop .head < length (c .before .loop .work)
+spot c =
+    let G = course c in
+    let l = c .loop-test .taken in
+    omega (arith, tail-few G l, laid-fits (laid-now G l) .1)
+
+-- a zone of the queue has been read
 abbrev There : Type 0
 There = tie.After-wide Inv-loop μ-loop
 
--- the function's entry
-abbrev entry : There → tie.Start Inv-loop μ-loop
-entry c = c .before .before .before .before .before
-
--- the loop's turn
-abbrev turn-of : There → tie.At-loop Inv-loop μ-loop
-turn-of c = c .before .before .before
+-- the loop's turn before it
+abbrev turn-of : There → Turn
+turn-of c = c .before .before
 
 -- where the zone's row starts
 abbrev row-start : There → ℕ
-row-start c = entry c .args .rows + getD (turn-of c .loop .work) (entry c .args .starts + c .wide .result) 0
+row-start c =
+    let a = entry (turn-of c) .args in
+    a .rows .rows + getD (turn-of c .before .loop .work) (a .rows .starts + c .wide .result) 0
 
 -- where the zone's row stops
 abbrev row-stop : There → ℕ
-row-stop c = entry c .args .rows + getD (turn-of c .loop .work) (entry c .args .starts + c .wide .result + 1) 0
-
--- the zone taken off the stack is a zone
-zone : (c : There) → c .wide .result < entry c .args .zones
-zone c =
-    let a = entry c .args in
-    let l = turn-of c .loop in
-    z-zone (a .work .now) (l .work) (a .zones) (a .starts) (a .rows) (a .from) (a .marks) (a .stack) (l .top)
-    (l .top - 1) (entry c .pre .0) (l .inv) (omega arith) (c .wide .result) (row-start c) (row-stop c)
-    (sym (c .wide .ensures)) refl refl
+row-stop c =
+    let a = entry (turn-of c) .args in
+    a .rows .rows + getD (turn-of c .before .loop .work) (a .rows .starts + c .wide .result + 1) 0
 
 -- its start and its end lie in the work memory
-inside : (c : There) → entry c .args .starts + c .wide .result + 1 < length (turn-of c .loop .work)
-inside c = let L = entry c .pre .0 in omega (arith, zone c, L .order, L .fits, turn-of c .loop .inv .kept .long)
+inside : (c : There) →
+    entry (turn-of c) .args .rows .starts + c .wide .result + 1 < length (turn-of c .before .loop .work)
+inside c =
+    let G = course (turn-of c) in
+    let L = laid-now G (turn-of c .loop-test .taken) in
+    omega (
+      arith,
+      head-zone G (turn-of c .loop-test .taken) (c .wide .ensures) refl refl,
+      L .order,
+      L .fits,
+    )
 
 -- its row can be visited
 ready : (c : There) →
-    Visitable (turn-of c .loop .work) (entry c .args .zones) (row-start c) (row-stop c) (entry c .args .marks)
-    (entry c .args .stack) (turn-of c .loop .top - 1)
-ready c =
-    let a = entry c .args in
-    let l = turn-of c .loop in
-    visitable (a .work .now) (l .work) (a .zones) (a .starts) (a .rows) (a .from) (a .marks) (a .stack) (l .top)
-    (l .top - 1) (entry c .pre .0) (l .inv) (omega arith) (c .wide .result) (row-start c) (row-stop c)
-    (sym (c .wide .ensures)) refl refl
+    let a = entry (turn-of c) .args in
+    let l = turn-of c .before .loop in
+    Visitable (l .work) (a .rows) (a .at) (a .x) (row-start c) (row-stop c) (l .tail)
+ready c = head-visitable (course (turn-of c)) (turn-of c .loop-test .taken) (c .wide .ensures) refl refl
+
+add-tail : tie.Need-add-tail Inv-loop μ-loop
+add-tail c =
+    let G = c .before .pre .course in
+    omega (arith, tail-few G (omega arith), G .able .able .laid .small)
 
 loop-holds : tie.Need-loop-holds Inv-loop μ-loop
-loop-holds c = search needs
-
-sub-top : tie.Need-sub-top Inv-loop μ-loop
-sub-top c = search needs
+loop-holds c = (omega arith, (refl, λ v from G. G))
 
 add-wide : tie.Need-add-wide Inv-loop μ-loop
-add-wide c = search needs
+add-wide c = omega (arith, spot c)
 
 mul-wide : tie.Need-mul-wide Inv-loop μ-loop
-mul-wide c = search needs
+mul-wide c = omega (arith, spot c)
 
 slice-read-wide : tie.Need-slice-read-wide Inv-loop μ-loop
-slice-read-wide c = search needs
+slice-read-wide c = spot (c .before)
 
 wide-requires : tie.Need-wide-requires Inv-loop μ-loop
 wide-requires c κs = search needs
@@ -94,7 +117,7 @@ wide-requires-2 : tie.Need-wide-requires-2 Inv-loop μ-loop
 wide-requires-2 c κs = search needs
 
 add-a : tie.Need-add-a Inv-loop μ-loop
-add-a c = let R = ready (c .before .before) in omega (arith, R .order, R .fits, c .wide2 .ensures)
+add-a c = let A = ready (c .before .before) in omega (arith, A .order, A .fits, c .wide2 .ensures)
 
 add-wide-3 : tie.Need-add-wide-3 Inv-loop μ-loop
 add-wide-3 c = omega (arith, inside (c .before .before))
@@ -112,34 +135,51 @@ wide-requires-3 : tie.Need-wide-requires-3 Inv-loop μ-loop
 wide-requires-3 c κs = search needs
 
 add-b : tie.Need-add-b Inv-loop μ-loop
-add-b c = let R = ready (c .before .before .before .before) in omega (arith, R .fits, c .wide3 .ensures)
+add-b c = let A = ready (c .before .before .before .before) in omega (arith, A .fits, c .wide3 .ensures)
 
 visit-requires : tie.Need-visit-requires Inv-loop μ-loop
 visit-requires c κs =
     let d = c .before .before .before in
     rw (d .wide2 .ensures, c .before .wide3 .ensures) (ready (d .before .before))
 
+add-head : tie.Need-add-head Inv-loop μ-loop
+add-head c =
+    let d = turn-of (c .before .before .before .before .before .before .before .before) in
+    let G = course d in
+    omega (arith, tail-few G (d .loop-test .taken), d .loop-test .taken, G .able .able .laid .small)
+
 loop-less : tie.Need-loop-less Inv-loop μ-loop
-loop-less c = search needs
+loop-less c =
+    let d = c .before .before .before .before .before .before .before .before in
+    omega (arith, tail-few (course (turn-of d)) (turn-of d .loop-test .taken), turn-of d .loop-test .taken)
 
 loop-again : tie.Need-loop-again Inv-loop μ-loop
 loop-again c =
-    let v = c .before .before .visit in
+    let y = c .before .before .visit in
     let second = c .before .before .before .before .before .before .wide2 .ensures in
     let third = c .before .before .before .before .wide3 .ensures in
     let d = c .before .before .before .before .before .before .before .before in
-    let a = entry d .args in
-    let l = turn-of d .loop in
-    turn (a .work .now) (l .work) (a .zones) (a .starts) (a .rows) (a .from) (a .marks) (a .stack) (l .top)
-    (l .top - 1) (entry d .pre .0) (l .inv) (omega (arith, d .before .before .loop-test .taken)) (d .wide .result)
-    (row-start d) (row-stop d) (sym (d .wide .ensures)) refl refl (v .last .0) (v .result)
-    (rw (second, third) at (v .ensures))
+    let i = turn-of d in
+    let seen = rw (second, third) at (y .ensures) in (
+      omega (arith, i .before .loop .inv .0, seen .grown),
+      (
+        seen .kept .long ∙ i .before .loop .inv .1 .0,
+        λ v from G.
+            spreading-next (i .before .loop .inv .1 .1 v from G) (i .loop-test .taken) (d .wide .ensures) refl refl
+            seen,
+      ),
+    )
 
 same-length : tie.Need-same-length Inv-loop μ-loop
-same-length c = search needs
+same-length c = c .before .loop .inv .1 .0
 
 returns : tie.Need-returns Inv-loop μ-loop
-returns c = let e : c .before .loop .top ≡ 0 = omega arith in rw e at (c .before .loop .inv)
+returns c =
+    let l = c .before .loop in
+    let U = c .before .before .before .pre in
+    let G = l .inv .1 .1 (U .began) (U .from) (U .course) in
+    let e : l .head ≡ l .tail = omega (arith, c .loop-test .left, G .high) in
+    record { grown = l .inv .0; goes-on = rw e at (l .inv .1 .1) }
 
 pub drain-spec : {M : Type 1} → statement M
 drain-spec =
@@ -147,8 +187,8 @@ drain-spec =
     (tie.spec
     Inv-loop
     μ-loop
+    add-tail
     loop-holds
-    sub-top
     add-wide
     mul-wide
     slice-read-wide
@@ -165,6 +205,7 @@ drain-spec =
     wide-requires-3
     add-b
     visit-requires
+    add-head
     loop-less
     loop-again
     same-length

@@ -3,21 +3,22 @@
 use borrow.Author.Needs.{needs}
 use native.Mathlib.Omega.{arith}
 use Prim.Native.Nat.{ℕ, _+_, _≤_, _<_, _-_}
-use mathlib.Core.Path.{refl}
-use lib.ListN.{length, getD, length-set}
-use Rattle.rows.specs.Marks.{First-in}
-use Rattle.rows.specs.declared.Found.the-variants.{At}
+use mathlib.Core.Path.{_≡_, refl}
+use lib.ListN.{length, getD, set, length-set}
+use Rattle.arranged.specs.Marks.{First-in}
+use Rattle.arranged.specs.declared.Found.the-variants.{At}
 use Rattle.search.specs.Marking.{Visited}
-use Rattle.search.proofs.Turn.{visit-none, visit-done, visit-more, past, low, space}
+use Rattle.search.proofs.Join.{Join, joined-space}
+use Rattle.search.proofs.Turn.{visit-none, visit-done, visit-join, visit-more, past}
 use Rattle.search.proofs.visit.Statement.{statement}
 use Rattle.search.proofs.visit.Tie as tie
 
 abbrev Inv-loop : tie.InvT-loop
-Inv-loop work₀ zones from to marks stack height a₀ top₀ work a top =
-    (from ≤ a) × ((a ≤ to) × Visited work₀ work zones from a marks stack height top)
+Inv-loop work₀ rows at x from to tail a₀ end₀ work a end =
+    (from ≤ a) × ((a ≤ to) × Visited work₀ work rows at x from a tail end)
 
 abbrev μ-loop : tie.MeasureT-loop
-μ-loop work₀ zones from to marks stack height a₀ top₀ work a top = to - a
+μ-loop work₀ rows at x from to tail a₀ end₀ work a end = to - a
 
 -- the step has found a zone
 abbrev Here : Type 0
@@ -37,26 +38,21 @@ found-at c = c .i .given .0 .0
 
 -- what the step said
 found : (c : Here) →
-    First-in (turn-of c .loop .work) (turn-of c .loop .a) (entry c .args .to) (entry c .args .marks) (At (found-at c))
+    let a = entry c .args in
+    let l = turn-of c .loop in
+    First-in (l .work) (l .a) (a .to) (a .at .marks) (At (found-at c))
 found c = rw (c .i .given .1) at (c .before .before .step .ensures)
 
--- what it found is a zone
-zone : (c : Here) → getD (turn-of c .loop .work) (turn-of c .loop .a + found-at c) 0 < entry c .args .zones
-zone c =
+-- the zone found gets the mark and joins the queue
+joins : (c : Here) →
     let a = entry c .args in
     let l = turn-of c .loop in
-    low (a .work .now) (l .work) (a .zones) (a .from) (a .to) (a .marks) (a .stack) (a .height) (l .a) (l .top)
-    (entry c .pre) (l .inv .1 .1) (l .inv .0) (l .inv .1 .0) (found-at c) _ _ refl refl (found c .0) (found c .1 .0)
-    (found c .1 .1)
-
--- the stack has room for it
-room : (c : Here) → turn-of c .loop .top < entry c .args .zones
-room c =
-    let a = entry c .args in
+    let h = getD (l .work) (l .a + found-at c) 0 in
+    Join (l .work) (set (set (l .work) (a .at .marks + h) (a .x)) (a .at .queue + l .end) h) (a .at) (a .rows .zones)
+    (a .x) (l .end) h
+joins c =
     let l = turn-of c .loop in
-    space (a .work .now) (l .work) (a .zones) (a .from) (a .to) (a .marks) (a .stack) (a .height) (l .a) (l .top)
-    (entry c .pre) (l .inv .1 .1) (l .inv .0) (l .inv .1 .0) (found-at c) _ _ refl refl (found c .0) (found c .1 .0)
-    (found c .1 .1)
+    visit-join (entry c .pre) (l .inv .1 .1) (l .inv .0) (l .inv .1 .0) (found-at c) refl (found c) refl
 
 -- the place found lies in the row
 in-row : (c : Here) → turn-of c .loop .a + found-at c < entry c .args .to
@@ -66,38 +62,23 @@ in-row c = found c .0
 row-inside : (c : Here) → entry c .args .to ≤ length (turn-of c .loop .work)
 row-inside c = omega (arith, entry c .pre .fits, turn-of c .loop .inv .1 .1 .kept .long)
 
--- the marks lie in the work memory
-marks-inside : (c : Here) → entry c .args .marks + entry c .args .zones ≤ length (turn-of c .loop .work)
-marks-inside c =
-    let R = entry c .pre in
-    omega (arith, R .apart, R .before, R .order, R .fits, turn-of c .loop .inv .1 .1 .kept .long)
-
--- the stack lies in the work memory
-stack-inside : (c : Here) → entry c .args .stack + entry c .args .zones ≤ length (turn-of c .loop .work)
-stack-inside c =
-    let R = entry c .pre in
-    omega (arith, R .before, R .order, R .fits, turn-of c .loop .inv .1 .1 .kept .long)
-
 loop-holds : tie.Need-loop-holds Inv-loop μ-loop
 loop-holds c =
     let a = c .before .args in (
       search needs,
-      (c .before .pre .order, visit-none (a .work .now) (a .zones) (a .from) (a .marks) (a .stack) (a .height)),
+      (c .before .pre .order, visit-none (a .work .now) (a .rows) (a .at) (a .x) (a .from) (a .tail)),
     )
 
 step-requires : tie.Need-step-requires Inv-loop μ-loop
 step-requires c κs =
-    let R = c .before .before .before .before .pre in
+    let A = c .before .before .before .before .pre in
     let l = c .before .before .loop in
-    let a = c .before .before .before .before .args in
-    let e = l .inv .1 .1 .kept .long in (
-      (l .inv .1 .0, (omega (arith, R .fits, e), omega (arith, R .apart, R .before, R .order, R .fits, e))),
+    let D = l .inv .1 .1 in
+    let e = D .kept .long in (
+      (l .inv .1 .0, (omega (arith, A .fits, e), omega (arith, A .apart, A .before, A .order, A .fits, e))),
       λ i h k.
-          rw
-          (past (a .work .now) (l .work) (a .zones) (a .from) (a .to) (a .marks) (a .stack) (a .height) (l .a)
-          (l .top) R
-          (l .inv .1 .1) (l .inv .0) (l .inv .1 .0) i (omega (arith, l .inv .0, h)))
-          (R .heads i (omega (arith, l .inv .0, h)) k),
+          rw (past A D (l .inv .0) (l .inv .1 .0) i (omega (arith, l .inv .0, h)))
+          (A .heads i (omega (arith, l .inv .0, h)) k),
     )
 
 enum-told : tie.Need-enum-told Inv-loop μ-loop
@@ -108,11 +89,9 @@ same-length c = search needs
 
 returns : tie.Need-returns Inv-loop μ-loop
 returns c =
-    let a = c .before .before .before .before .before .before .before .args in
     let l = c .before .before .before .before .before .loop in
-    visit-done (a .work .now) (l .work) (a .zones) (a .from) (a .to) (a .marks) (a .stack) (a .height) (l .a) (l .top)
-    (c .before .before .before .before .before .before .before .pre) (l .inv .1 .1) (l .inv .0) (l .inv .1 .0)
-    (rw (c .enum-told .given .1) at (c .before .before .step .ensures))
+    visit-done (c .before .before .before .before .before .before .before .pre) (l .inv .1 .1) (l .inv .0)
+    (l .inv .1 .0) (rw (c .enum-told .given .1) at (c .before .before .step .ensures))
 
 enum-known-i : tie.Need-enum-known-i Inv-loop μ-loop
 enum-known-i c = search needs
@@ -130,25 +109,29 @@ wide-requires : tie.Need-wide-requires Inv-loop μ-loop
 wide-requires c κs = search needs
 
 add-m : tie.Need-add-m Inv-loop μ-loop
-add-m c = let d = c .before .before .before in omega (arith, marks-inside d, zone d, c .wide .ensures)
+add-m c = let J = joins (c .before .before .before) in omega (arith, J .apart, J .fits, J .zone, c .wide .ensures)
 
 mul-work : tie.Need-mul-work Inv-loop μ-loop
-mul-work c = let d = c .before .before .before in omega (arith, marks-inside d, zone d, c .wide .ensures)
+mul-work c = let J = joins (c .before .before .before) in omega (arith, J .apart, J .fits, J .zone, c .wide .ensures)
 
 slice-write-work : tie.Need-slice-write-work Inv-loop μ-loop
-slice-write-work c = let d = c .before .before .before in omega (arith, marks-inside d, zone d, c .wide .ensures)
+slice-write-work c =
+    let J = joins (c .before .before .before) in
+    omega (arith, J .apart, J .fits, J .zone, c .wide .ensures)
 
 add-work : tie.Need-add-work Inv-loop μ-loop
-add-work c = search needs
+add-work c = let J = joins (c .before .before .before) in omega (arith, J .fits, joined-space J)
 
 mul-work-2 : tie.Need-mul-work-2 Inv-loop μ-loop
-mul-work-2 c = search needs
+mul-work-2 c = let J = joins (c .before .before .before) in omega (arith, J .fits, joined-space J)
 
 slice-write-work-2 : tie.Need-slice-write-work-2 Inv-loop μ-loop
-slice-write-work-2 c = let d = c .before .before .before in simp length-set (omega (arith, stack-inside d, room d))
+slice-write-work-2 c =
+    let J = joins (c .before .before .before) in
+    simp length-set (omega (arith, J .fits, joined-space J))
 
-add-top : tie.Need-add-top Inv-loop μ-loop
-add-top c = search needs
+add-end : tie.Need-add-end Inv-loop μ-loop
+add-end c = let J = joins (c .before .before .before) in omega (arith, J .fits, joined-space J)
 
 add-a : tie.Need-add-a Inv-loop μ-loop
 add-a c = let d = c .before .before .before in omega (arith, in-row d, row-inside d)
@@ -162,15 +145,12 @@ loop-less c = search needs
 loop-again : tie.Need-loop-again Inv-loop μ-loop
 loop-again c =
     let d = c .before .before .before in
-    let a = entry d .args in
     let l = turn-of d .loop in (
       omega (arith, l .inv .0),
       (
         omega (arith, in-row d),
-        visit-more (a .work .now) (l .work) (a .zones) (a .from) (a .to) (a .marks) (a .stack) (a .height) (l .a)
-            (l .top) (entry d .pre) (l .inv .1 .1) (l .inv .0) (l .inv .1 .0) (found-at d) _ _ refl
-            (rw (c .wide .ensures)) (found d .0)
-            (found d .1 .0) (found d .1 .1),
+        visit-more (entry d .pre) (l .inv .1 .1) (l .inv .0) (l .inv .1 .0) (found-at d) refl (found d)
+            (rw (c .wide .ensures)),
       ),
     )
 
@@ -180,9 +160,7 @@ same-length-2 c = search needs
 returns-2 : tie.Need-returns-2 Inv-loop μ-loop
 returns-2 c =
     let l = c .before .loop in
-    let a = c .before .before .before .args in
-    visit-done (a .work .now) (l .work) (a .zones) (a .from) (a .to) (a .marks) (a .stack) (a .height) (l .a) (l .top)
-    (c .before .before .before .pre) (l .inv .1 .1) (l .inv .0) (l .inv .1 .0)
+    visit-done (c .before .before .before .pre) (l .inv .1 .1) (l .inv .0) (l .inv .1 .0)
     (λ k low high. absurd (omega (arith, c .loop-test .left)))
 
 pub visit-spec : {M : Type 1} → statement M
@@ -207,7 +185,7 @@ visit-spec =
     add-work
     mul-work-2
     slice-write-work-2
-    add-top
+    add-end
     add-a
     add-a-2
     loop-less

@@ -1,26 +1,41 @@
 -- `skeleton::put` meets its contract: an arc whose head has no mark is left out, and any other is stored.
 -- Assumes nothing.
 use borrow.Author.Needs.{needs}
+use native.Mathlib.Omega.{arith}
+use Prim.Native.Nat.{_+_}
+use mathlib.Core.Path.{_≡_}
+use lib.ListN.{getD}
+use Rattle.workmap.proofs.Places.{cross-placed}
+use Rattle.crossings.specs.Named.{chosen-at}
 use Rattle.skeleton.proofs.Puts.{put-miss, put-hit, hit-room}
 use Rattle.skeleton.proofs.put.Statement.{statement}
 use Rattle.skeleton.proofs.put.Tie as tie
 
-mul-if1 : tie.Need-mul-if1
-mul-if1 c = search needs
+-- the place of the marks
+here : (s : tie.Start) → s .args .m .cross .chosen ≡ chosen-at (s .args .m .zones)
+here s = cross-placed (s .pre .1 .1 .1) .chosen
+
+-- the head has a mark
+hit : (c : tie.Else1) →
+    let a = c .before .before .args in
+    getD (a .work .now) (chosen-at (a .m .zones) + a .b) 0 ≡ 0 → ⊥
+hit c = rw (here (c .before .before)) at (c .if1 .left)
 
 add-if1 : tie.Need-add-if1
-add-if1 c = search needs
+add-if1 c = omega (arith, here c, c .pre .0 .small, c .pre .1 .0)
 
-mul-if1-2 : tie.Need-mul-if1-2
-mul-if1-2 c = search needs
+mul-if1 : tie.Need-mul-if1
+mul-if1 c = omega (arith, here c, c .pre .0 .small, c .pre .1 .0)
 
 shared-slice-read-if1 : tie.Need-shared-slice-read-if1
-shared-slice-read-if1 c = search needs
+shared-slice-read-if1 c = let s = c .before in omega (arith, here s, s .pre .0 .fits, s .pre .1 .0)
 
 returns : tie.Need-returns
 returns c =
-    let a = c .before .before .args in
-    put-miss (a .work .now) (a .zones) (a .a) (a .b) (a .tails .now) (a .heads .now) (a .at) (c .if1 .taken)
+    let s = c .before .before in
+    let a = s .args in
+    put-miss (a .work .now) (a .m .zones) (a .a) (a .b) (a .tails .now) (a .heads .now) (a .at)
+    (rw (here s) at (c .if1 .taken))
 
 cast-tails : tie.Need-cast-tails
 cast-tails c = search needs
@@ -32,8 +47,8 @@ slice-write-tails : tie.Need-slice-write-tails
 slice-write-tails c =
     let s = c .before .before in
     let a = s .args in
-    hit-room (a .work .now) (a .zones) (a .a) (a .b) (a .tails .now) (a .heads .now) (a .at) (c .if1 .left)
-    (s .pre .1 .1) .0
+    hit-room (a .work .now) (a .m .zones) (a .a) (a .b) (a .tails .now) (a .heads .now) (a .at) (hit c)
+    (s .pre .1 .1 .0) .0
 
 cast-heads : tie.Need-cast-heads
 cast-heads c = search needs
@@ -45,8 +60,8 @@ slice-write-heads : tie.Need-slice-write-heads
 slice-write-heads c =
     let s = c .before .before in
     let a = s .args in
-    hit-room (a .work .now) (a .zones) (a .a) (a .b) (a .tails .now) (a .heads .now) (a .at) (c .if1 .left)
-    (s .pre .1 .1) .1
+    hit-room (a .work .now) (a .m .zones) (a .a) (a .b) (a .tails .now) (a .heads .now) (a .at) (hit c)
+    (s .pre .1 .1 .0) .1
 
 add-result : tie.Need-add-result
 add-result c = search needs
@@ -60,15 +75,14 @@ same-length-2 c = search needs
 returns-2 : tie.Need-returns-2
 returns-2 c =
     let a = c .before .before .args in
-    put-hit (a .work .now) (a .zones) (a .a) (a .b) (a .tails .now) (a .heads .now) (a .at) (c .if1 .left)
+    put-hit (a .work .now) (a .m .zones) (a .a) (a .b) (a .tails .now) (a .heads .now) (a .at) (hit c)
 
 pub put-spec : {M : Type 1} → statement M
 put-spec =
     tie.close
     (tie.spec
-    mul-if1
     add-if1
-    mul-if1-2
+    mul-if1
     shared-slice-read-if1
     returns
     cast-tails

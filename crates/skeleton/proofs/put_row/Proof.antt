@@ -4,38 +4,35 @@ use borrow.Author.Needs.{needs}
 use native.Mathlib.Omega.{arith}
 use Prim.Native.Nat.{_≤_, _-_}
 use mathlib.Core.Path.{_≡_}
-use Rattle.rules.specs.Lists.{run, keep}
+use Rattle.rules.specs.Lists.{span, keep}
 use Rattle.theory.proofs.Skeletons.SkeletonRows.{pair-row}
-use Rattle.skeleton.specs.Putting.{marked-arc, Put}
-use Rattle.skeleton.proofs.Puts.{put-none, put-long, row-room, row-turn}
+use Rattle.skeleton.specs.Putting.{marked-arc, Arcs-put}
+use Rattle.skeleton.proofs.Puts.{arc-put-none, put-long, row-room, row-turn}
 use Rattle.skeleton.proofs.put_row.Statement.{statement}
 use Rattle.skeleton.proofs.put_row.Tie as tie
 
 abbrev Inv-loop : tie.InvT-loop
-Inv-loop work zones a tails₀ heads₀ at b₀ next₀ tails heads b next =
-    (b ≤ zones) × Put tails₀ heads₀ tails heads at (keep (marked-arc work zones) (pair-row (run 0 b) a)) next
+Inv-loop work m a tails₀ heads₀ at zones b₀ next₀ tails heads b next =
+    (b ≤ m .zones)
+    × Arcs-put tails₀ heads₀ tails heads at (keep (marked-arc work (m .zones)) (pair-row (span 0 b) a)) next
 
 abbrev μ-loop : tie.MeasureT-loop
-μ-loop work zones a tails₀ heads₀ at b₀ next₀ tails heads b next = zones - b
+μ-loop work m a tails₀ heads₀ at zones b₀ next₀ tails heads b next = m .zones - b
 
 loop-holds : tie.Need-loop-holds Inv-loop μ-loop
 loop-holds c =
     let a = c .before .before .before .args in
-    (search needs, put-none (a .tails .now) (a .heads .now) (a .at))
+    (search needs, arc-put-none (a .tails .now) (a .heads .now) (a .at))
 
 put-requires : tie.Need-put-requires Inv-loop μ-loop
 put-requires c κs =
     let d = c .before .before in
     let s = d .before .before .before .before .before in
     let a = s .args in
-    let l = d .before .loop in (
-      s .pre .0,
-      (
-        d .loop-test .taken,
-        row-room (marked-arc (a .work .now) (a .zones)) (a .zones) (a .a) (a .tails .now) (a .heads .now) (a .at)
-            (s .pre .1) (l .tails) (l .heads) (l .b) (l .next) (d .loop-test .taken) (l .inv .1),
-      ),
-    )
+    let l = d .before .loop in
+    let room = row-room (marked-arc (a .work .now) (a .m .zones)) (a .m .zones) (a .a) (a .tails .now) (a .heads .now)
+    (a .at) (s .pre .1 .0) (l .tails) (l .heads) (l .b) (l .next) (d .loop-test .taken) (l .inv .1) in
+    (s .pre .0, (d .loop-test .taken, (room, s .pre .1 .1)))
 
 add-b : tie.Need-add-b Inv-loop μ-loop
 add-b c = search needs
@@ -51,8 +48,8 @@ loop-again c =
     let a = s .args in
     let l = d .before .loop in (
       search needs,
-      row-turn (marked-arc (a .work .now) (a .zones)) (a .zones) (a .a) (a .tails .now) (a .heads .now) (a .at)
-          (s .pre .1) (l .tails) (l .heads) (l .b) (l .next) (d .loop-test .taken) (l .inv .1)
+      row-turn (marked-arc (a .work .now) (a .m .zones)) (a .m .zones) (a .a) (a .tails .now) (a .heads .now) (a .at)
+          (s .pre .1 .0) (l .tails) (l .heads) (l .b) (l .next) (d .loop-test .taken) (l .inv .1)
           (e .put .last .1 .1 .1 .1 .0) (e .put .last .1 .1 .1 .1 .1 .0) (e .put .result) (e .put .ensures),
     )
 
@@ -65,7 +62,7 @@ same-length-2 c = put-long (c .before .loop .inv .1) .1
 returns : tie.Need-returns Inv-loop μ-loop
 returns c =
     let l = c .before .loop in
-    let e : l .b ≡ c .before .before .before .before .before .args .zones = omega arith in
+    let e : l .b ≡ c .before .before .before .before .before .args .m .zones = omega arith in
     rw e at (l .inv .1)
 
 pub put-row-spec : {M : Type 1} → statement M

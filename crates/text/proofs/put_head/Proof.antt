@@ -3,24 +3,25 @@
 use mathlib.Core.List.{List, _++_}
 use Prim.Native.Nat.{ℕ}
 use Rattle.rules.specs.Text.{word}
-use Rattle.text.specs.Put.{Room}
-use Rattle.text.specs.Lines.{labelled, two, head-text}
-use Rattle.text.proofs.Puts.{room-first, room-rest, written-then}
+use Rattle.buffer.specs.Put.{Text-room}
+use Rattle.buffer.specs.Words.{labelled, two}
+use Rattle.buffer.proofs.Puts.{room-first, room-rest, written-then}
+use Rattle.text.specs.Texts.{head-text}
 use borrow.Author.Needs.{needs}
 use Rattle.text.proofs.put_head.Statement.{statement}
 use Rattle.text.proofs.put_head.Tie as tie
 
 -- what is left to put after the third text
 abbrev left-3 : tie.Start → List ℕ
-left-3 c = labelled (word "\nneed ") (c .args .need) ++ word "\n"
+left-3 c = labelled (word "\nneed ") (c .args .f .need) ++ word "\n"
 
 -- what is left after the second
 abbrev left-2 : tie.Start → List ℕ
-left-2 c = two (word " alone ") (c .args .alone) (word " pairs ") (c .args .pairs) ++ left-3 c
+left-2 c = two (word " alone ") (c .args .f .alone) (word " pairs ") (c .args .f .pairs) ++ left-3 c
 
 -- what is left after the first
 abbrev left-1 : tie.Start → List ℕ
-left-1 c = two (word "\nsources ") (c .args .sources) (word " sinks ") (c .args .sinks) ++ left-2 c
+left-1 c = two (word "\nsources ") (c .args .f .sources) (word " sinks ") (c .args .f .sinks) ++ left-2 c
 
 -- the function's entry, seen from where the first text is put
 abbrev start-1 : tie.After-put-two → tie.Start
@@ -35,17 +36,17 @@ abbrev start-3 : tie.After-put-two3 → tie.Start
 start-3 c = start-2 (c .before .before .before .before .before .before)
 
 -- once the first text is put there is room for what is left
-room-1 : (c : tie.After-put-two) → Room (c .put-two .last .0) (c .put-two .result) (left-1 (start-1 c))
+room-1 : (c : tie.After-put-two) → Text-room (c .put-two .last .0) (c .put-two .result) (left-1 (start-1 c))
 unfolding head-text word
 room-1 c = room-rest (start-1 c .pre) (c .put-two .ensures)
 
 -- the same for the second
-room-2 : (c : tie.After-put-two2) → Room (c .put-two2 .last .0) (c .put-two2 .result) (left-2 (start-2 c))
+room-2 : (c : tie.After-put-two2) → Text-room (c .put-two2 .last .0) (c .put-two2 .result) (left-2 (start-2 c))
 unfolding word
 room-2 c = room-rest (room-1 (c .before .before .before .before .before .before)) (c .put-two2 .ensures)
 
 -- the same for the third
-room-3 : (c : tie.After-put-two3) → Room (c .put-two3 .last .0) (c .put-two3 .result) (left-3 (start-3 c))
+room-3 : (c : tie.After-put-two3) → Text-room (c .put-two3 .last .0) (c .put-two3 .result) (left-3 (start-3 c))
 unfolding word
 room-3 c = room-rest (room-2 (c .before .before .before .before .before .before)) (c .put-two3 .ensures)
 

@@ -4,43 +4,37 @@ use Prim.Native.Nat.{ℕ}
 use mathlib.Core.List.{List, _++_}
 use native.Mathlib.Omega.{arith}
 use Rattle.rules.specs.Text.{word}
-use Rattle.text.specs.Put.{Room}
-use Rattle.text.specs.Lines.{lines-of, head-text, plan-text}
-use Rattle.text.proofs.Links.{lines-length}
-use Rattle.text.proofs.Texts.{plan-length}
-use Rattle.text.proofs.Puts.{room-first, room-rest, written-then}
+use Rattle.buffer.specs.Put.{Text-room}
+use Rattle.buffer.proofs.Puts.{room-first, room-rest, written-then}
+use Rattle.lines.specs.Lines.{lines-of}
+use Rattle.lines.proofs.Links.{lines-length}
+use Rattle.text.specs.Texts.{head-text, plan-text}
+use Rattle.text.proofs.TextLaws.{plan-text-length}
 use borrow.Author.Needs.{needs}
 use Rattle.text.proofs.put_plan.Statement.{statement}
 use Rattle.text.proofs.put_plan.Tie as tie
 
 -- the lines of the links handed in
 abbrev links : tie.Start → List ℕ
-links c = lines-of (c .args .from .now) (c .args .to .now) (c .args .why .now) (c .args .count)
+links c = lines-of (c .args .from .now) (c .args .to .now) (c .args .why .now) (c .args .f .need)
 
 -- the lines above them
 abbrev head : tie.Start → List ℕ
-head c =
-    let a = c .args in
-    head-text (a .zones) (a .arcs) (a .sources) (a .sinks) (a .alone) (a .pairs) (a .need)
+head c = head-text (c .args .f)
 
 -- the buffer has room for all lines
 whole : (c : tie.After-shared-slice-known3) →
     let s = c .before .before .before .before in
-    Room (s .args .out .now) (s .args .at) (head s ++ (links s ++ word "done\n"))
+    Text-room (s .args .out .now) (s .args .at) (head s ++ (links s ++ word "done\n"))
 unfolding plan-text
 whole c =
     let s = c .before .before .before .before in
     let a = s .args in
-    let f = s .fits in
     let lines =
-    lines-length (a .from .now) (a .to .now) (a .why .now) (a .count)
+    lines-length (a .from .now) (a .to .now) (a .why .now) (a .f .need)
     (λ i. c .before .before .shared-slice-known .given i .fits)
     (λ i. c .before .shared-slice-known2 .given i .fits) in
-    let all =
-    plan-length (a .zones) (a .arcs) (a .sources) (a .sinks) (a .alone) (a .pairs) (a .need) (links s)
-    (f .zones .fits) (f .arcs .fits) (f .sources .fits) (f .sinks .fits) (f .alone .fits)
-    (f .pairs .fits) (f .need .fits) in
-    record { fits = omega (arith, lines, all, s .pre .1) }
+    record { fits = omega (arith, lines, plan-text-length (a .f) (links s), s .pre .1) }
 
 put-head-requires : tie.Need-put-head-requires
 put-head-requires c κs =

@@ -2,25 +2,21 @@
 -- Assumes nothing.
 use mathlib.Core.List.{_++_}
 use native.Mathlib.Omega.{arith}
-use Rattle.rules.specs.Number.{refusal}
-use Rattle.rules.specs.Text.{word, refusal-line}
-use Rattle.text.specs.Put.{Room}
-use Rattle.text.specs.Lines.{two}
-use Rattle.text.proofs.Texts.{refusal-text, refusal-length}
-use Rattle.text.proofs.Puts.{room-first, room-rest, written-then}
+use Rattle.rules.specs.Text.{word}
+use Rattle.buffer.specs.Put.{Text-room}
+use Rattle.buffer.specs.Words.{two}
+use Rattle.text.specs.Texts.{refusal-text}
+use Rattle.buffer.proofs.Puts.{room-first, room-rest, written-then}
+use Rattle.text.proofs.TextLaws.{refusal-length}
 use borrow.Author.Needs.{needs}
 use Rattle.text.proofs.put_refusal.Statement.{statement}
 use Rattle.text.proofs.put_refusal.Tie as tie
 
 -- the buffer has room for the whole line
-whole : (c : tie.Start) → Room (c .args .out .now) (c .args .at)
+whole : (c : tie.Start) → Text-room (c .args .out .now) (c .args .at)
     (two (word "refused ") (c .args .number) (word " at ") (c .args .place) ++ word "\n")
-whole c =
-    let a = c .args in
-    let short = refusal-length (a .number) (a .place) (c .fits .number .fits) (c .fits .place .fits) in
-    let room : Room (a .out .now) (a .at) (refusal-line (refusal (a .number) (a .place))) =
-    record { fits = omega (arith, short) } in
-    rw (refusal-text (a .number) (a .place)) at room
+unfolding refusal-text
+whole c = record { fits = omega (arith, refusal-length (c .args .number) (c .args .place)) }
 
 slice-aggregate-put-two : tie.Need-slice-aggregate-put-two
 slice-aggregate-put-two c = search needs
@@ -47,12 +43,11 @@ same-length : tie.Need-same-length
 same-length c = search needs
 
 returns : tie.Need-returns
-unfolding word
+unfolding word refusal-text
 returns c =
     let t = c .before .before .before .before .before .before .before in
     let s = t .before .before .before .before .before in
-    rw (refusal-text (s .args .number) (s .args .place))
-    (written-then (whole s) (t .put-two .ensures) (c .before .before .put-bytes .ensures))
+    written-then (whole s) (t .put-two .ensures) (c .before .before .put-bytes .ensures)
 
 pub put-refusal-spec : {M : Type 1} → statement M
 put-refusal-spec =

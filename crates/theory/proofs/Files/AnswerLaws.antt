@@ -3,7 +3,7 @@
 --   yes-once, yes-few  so does the number of a yes or a no, which is at most 1
 --   done-once, refused-once, done-not-refused      the shared part, over what an answer says
 --   read-told-once ..  each call's answers, case by case
--- The kinds in the order of their numbers undo `kind-number`; no kind has number 0, so DONE is told from a refusal.
+-- The kinds in the order of their numbers undo `trouble-number`; no kind has number 0, so DONE is told from a refusal.
 -- Assumes nothing.
 use Prim.Native.Nat.{ℕ, _-_, _≤_}
 use native.Mathlib.Omega.{arith}
@@ -12,10 +12,11 @@ use mathlib.Core.Bool.{Bool, true, false}
 use mathlib.Core.List.{List, [], _∷_}
 use lib.ListN.{getD}
 use lib.Dec.{lit≤}
-use Rattle.rules.specs.Answers.{kind-number, Refusal, Told, done, refused, trouble-refusal, yes-number}
+use Rattle.rules.specs.Answers.{trouble-number, refusal, Told, done, refused, yes-number}
 use Rattle.rules.specs.Answers.{read-told, write-told, strong-told, reach-told, skeleton-told, plan-told}
-use Rattle.rules.specs.declared.Kind.{Kind}
-use Rattle.rules.specs.declared.Kind.the-variants.{Short, Long, Loose, Zones, Arcs, Range, SelfArc, Extra, Room, Pair}
+use Rattle.rules.specs.declared.TroubleKind.{TroubleKind}
+use Rattle.rules.specs.declared.TroubleKind.the-variants.{Short, Long, Loose, Zones, Arcs, Range, SelfArc}
+use Rattle.rules.specs.declared.TroubleKind.the-variants.{Extra, Room, Pair}
 use Rattle.rules.specs.declared.Trouble.{Trouble}
 use Rattle.rules.specs.declared.ReadAnswer.{ReadAnswer}
 use Rattle.rules.specs.declared.WriteAnswer.{WriteAnswer}
@@ -25,15 +26,15 @@ use Rattle.rules.specs.declared.SkeletonAnswer.{SkeletonAnswer}
 use Rattle.rules.specs.declared.PlanAnswer.{PlanAnswer}
 
 -- the kinds in the order of their numbers, from 1 on
-abbrev kinds : List Kind
+abbrev kinds : List TroubleKind
 kinds = Short ∷ Long ∷ Loose ∷ Zones ∷ Arcs ∷ Range ∷ SelfArc ∷ Extra ∷ Room ∷ Pair ∷ []
 
 -- the kind of a number
-abbrev kind-of : ℕ → Kind
+abbrev kind-of : ℕ → TroubleKind
 kind-of n = getD kinds (n - 1) Short
 
 -- the kind of a kind's number is the kind, and the number is not 0
-kind-back : (k : Kind) → (kind-of (kind-number k) ≡ k) × (1 ≤ kind-number k)
+kind-back : (k : TroubleKind) → (kind-of (trouble-number k) ≡ k) × (1 ≤ trouble-number k)
 kind-back Short = (refl, lit≤ tt)
 kind-back Long = (refl, lit≤ tt)
 kind-back Loose = (refl, lit≤ tt)
@@ -46,7 +47,7 @@ kind-back Room = (refl, lit≤ tt)
 kind-back Pair = (refl, lit≤ tt)
 
 -- the number of a kind names it
-pub kind-once : (k l : Kind) → kind-number k ≡ kind-number l → k ≡ l
+pub kind-once : (k l : TroubleKind) → trouble-number k ≡ trouble-number l → k ≡ l
 kind-once k l e = sym (kind-back k .0) ∙ ap kind-of e ∙ kind-back l .0
 
 -- the number of a yes or no names it
@@ -61,24 +62,19 @@ pub yes-few : (b : Bool) → yes-number b ≤ 1
 yes-few true = omega arith
 yes-few false = omega arith
 
--- a refusal names its trouble
-pub trouble-once : (t u : Trouble) → trouble-refusal t ≡ trouble-refusal u → t ≡ u
-trouble-once t u e =
-    ap₂ (λ (k : Kind) (p : ℕ). record { kind = k; place = p })
-    (kind-once (t .kind) (u .kind) (ap (λ (r : Refusal). r .number) e))
-    (ap (λ (r : Refusal). r .place) e)
-
 -- DONE names its values
 pub done-once : {vs ws : List ℕ} → done vs ≡ done ws → vs ≡ ws
 done-once e = ap (λ (a : Told). a .values) e
 
 -- what a refusal says names its trouble
-pub refused-once : (k : ℕ) (t u : Trouble) → refused k (trouble-refusal t) ≡ refused k (trouble-refusal u) → t ≡ u
+pub refused-once : (k : ℕ) (t u : Trouble) → refused k t ≡ refused k u → t ≡ u
 refused-once k t u e =
-    trouble-once t u (ap (λ (a : Told). record { number = a .number; place = a .place }) e)
+    ap₂ refusal
+    (kind-once (t .kind) (u .kind) (ap (λ (a : Told). a .number) e))
+    (ap (λ (a : Told). a .place) e)
 
 -- DONE is no refusal
-pub done-not-refused : (k : ℕ) (vs : List ℕ) (t : Trouble) → done vs ≡ refused k (trouble-refusal t) → ⊥
+pub done-not-refused : (k : ℕ) (vs : List ℕ) (t : Trouble) → done vs ≡ refused k t → ⊥
 done-not-refused k vs t e = omega (arith, kind-back (t .kind) .1, ap (λ (a : Told). a .number) e)
 
 -- two answers of reading that say the same are the same

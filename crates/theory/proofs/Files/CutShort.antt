@@ -17,9 +17,11 @@ use lib.ListN.{length, getD, take}
 use lib.Seq.{getD-take, length-take-le}
 use lib.Dec.{ltb, leb, eqb}
 use borrow.Author.Tests.{ltb-false, lt-ltb, le-ltb, lt-leb, le-leb}
-use Rattle.rules.specs.Answers.{Refusal}
+use Rattle.rules.specs.declared.Trouble.{Trouble}
+use Rattle.rules.specs.declared.TroubleKind.the-variants.{Short, Long, Loose}
+use Rattle.rules.specs.Answers.{refusal}
 use Rattle.rules.specs.Network.{_⟶_}
-use Rattle.rules.specs.Number.{Reading, got, bad, then, refusal, unless, short, third-group, second-group, number-at}
+use Rattle.rules.specs.Number.{Reading, got, bad, then, unless, short, third-group, second-group, number-at}
 use Rattle.rules.specs.File.{Given, zone-at, arc-at, arcs-at, body-at, counted-at, file-at, zones-bad, arcs-bad}
 use Rattle.rules.specs.Text.{printed, refusal-line}
 use Rattle.theory.proofs.Files.Readings.{bad-not-got, got-place, unless-got, then-got}
@@ -30,7 +32,7 @@ module _ (k : ℕ) where
   -- is 1 SHORT at k
   record CutOff {A : Type 0} (at : ℕ) (r c : Reading A) : Type 0 where
     onward : {x : A} {next : ℕ} → r ≡ got x next → at ≤ next
-    reads : {x : A} {next : ℕ} → at ≤ k → r ≡ got x next → c ≡ unless (ltb k next) (refusal 1 k) (got x next)
+    reads : {x : A} {next : ℕ} → at ≤ k → r ≡ got x next → c ≡ unless (ltb k next) (refusal Short k) (got x next)
 
   -- a value that is there with no byte read
   got-cut-off : {A : Type 0} (x : A) (at : ℕ) → CutOff at (got x at) (got x at)
@@ -40,7 +42,7 @@ module _ (k : ℕ) where
   }
 
   -- a refusal is no reading that ends
-  bad-cut-off : {A : Type 0} (t : Refusal) (at : ℕ) → CutOff {A = A} at (bad t) (bad t)
+  bad-cut-off : {A : Type 0} (t : Trouble) (at : ℕ) → CutOff {A = A} at (bad t) (bad t)
   bad-cut-off t at = record { onward = λ e. absurd (bad-not-got e); reads = λ l e. absurd (bad-not-got e) }
 
   -- a choice by the same test
@@ -50,7 +52,7 @@ module _ (k : ℕ) where
   cond-cut-off false f g = g
 
   -- a refusal by the same test
-  unless-cut-off : {A : Type 0} {at : ℕ} (b : Bool) (t : Refusal) {r c : Reading A}
+  unless-cut-off : {A : Type 0} {at : ℕ} (b : Bool) (t : Trouble) {r c : Reading A}
       → CutOff at r c → CutOff at (unless b t r) (unless b t c)
   unless-cut-off {at} b t f = cond-cut-off b (bad-cut-off t at) f
 
@@ -107,15 +109,15 @@ module _ (k : ℕ) where
     unfolding third-group
     third-cut-off at low =
         byte-cut-off (at + 2) _ _ (omega arith) λ b.
-        unless-cut-off (eqb b 0) (refusal 3 at)
-        (cond-cut-off (ltb b 128) (got-cut-off (low + 16384 * b) (at + 3)) (bad-cut-off (refusal 2 at) (at + 3)))
+        unless-cut-off (eqb b 0) (refusal Loose at)
+        (cond-cut-off (ltb b 128) (got-cut-off (low + 16384 * b) (at + 3)) (bad-cut-off (refusal Long at) (at + 3)))
 
     -- a second group
     second-cut-off : (at low : ℕ) → CutOff (at + 1) (second-group s at low) (second-group part at low)
     unfolding second-group
     second-cut-off at low =
         byte-cut-off (at + 1) _ _ (omega arith) λ b.
-        unless-cut-off (eqb b 0) (refusal 3 at)
+        unless-cut-off (eqb b 0) (refusal Loose at)
         (cond-cut-off (ltb b 128) (got-cut-off (low + 128 * b) (at + 2)) (third-cut-off at (low + 128 * (b - 128))))
 
     -- a number: one, two or three groups
@@ -146,7 +148,7 @@ module _ (k : ℕ) where
         then-cut-off (arcs-cut-off n m next) λ es end. got-cut-off (e ∷ es) end
 
     -- the end of the arcs: where nothing follows them, it is beyond k
-    end-cut-off : {A : Type 0} (x : A) (end : ℕ) (t : Refusal) (c : Reading A)
+    end-cut-off : {A : Type 0} (x : A) (end : ℕ) (t : Trouble) (c : Reading A)
         → CutOff end (unless (ltb end (length s)) t (got x end)) c
     end-cut-off x end t c = record {
       onward = λ e. omega (arith, got-place (unless-got (ltb end (length s)) t _ e .1));
@@ -173,12 +175,12 @@ module _ (k : ℕ) where
 
 -- an accepted file that is cut off anywhere is refused with 1 SHORT at its length
 pub cut-short : (s : List ℕ) (a b : ℕ) {g : Given} {end : ℕ} → file-at s a b ≡ got g end → (k : ℕ) → k < length s
-    → file-at (take k s) a b ≡ bad (refusal 1 k)
+    → file-at (take k s) a b ≡ bad (refusal Short k)
 cut-short s a b {end} e k h =
     rw (lt-ltb k end (omega (arith, file-read s a b e .ends))) at (file-cut-off k s h a b .reads (omega arith) e)
 
 -- linkplan prints that refusal
 pub printed-cut : (s : List ℕ) {g : Given} {end : ℕ} → file-at s 4096 4096 ≡ got g end → (k : ℕ) → k < length s
-    → printed (take k s) ≡ refusal-line (refusal 1 k)
+    → printed (take k s) ≡ refusal-line (refusal Short k)
 unfolding printed
 printed-cut s e k h = rw (cut-short s 4096 4096 e k h, printed)

@@ -1,9 +1,8 @@
 -- The network file: reading undoes writing, and an accepted file is the file that its network is written as.
---   Sound n e            the arc e is between two different zones of n
+--   Reading-sound n e            the arc e is between two different zones of n
 --   zone-got, arc-got .. what a reading that succeeds has read
 --   arc-stands ..        the bytes of what was read stand there
 --   stands-zone ..       where the bytes stand, the reading succeeds
---   written-bytes        a network that a call accepts is written in bytes
 --   read-written         reading a written file gives the same zones and arcs
 --   accepted-acceptable, accepted-is-written, accepted-length      what is known of an accepted file
 --   same-file-same-network      a file stands for one network only
@@ -28,18 +27,17 @@ use Rattle.theory.proofs.Files.Readings.{unless-got, then-got, got-valu
 use Rattle.theory.proofs.Files.Readings.{stands-nothing, stands-whole, stands-join, stands-left, stands-right}
 use Rattle.theory.proofs.Files.Readings.{stands-all}
 use Rattle.theory.proofs.Files.NumberLaws.{Bytes, number-stands, stands-number, number-next}
-use Rattle.theory.proofs.Files.NumberLaws.{bytes-none, bytes-join, number-bytes-bytes}
 
 -- the arc e is between two different zones of n
-abbrev pub Sound : ℕ → Arc → Type 0
-Sound n e = (e .tail < n) × (e .head < n) × (e .tail ≡ e .head → ⊥)
+abbrev pub Reading-sound : ℕ → Arc → Type 0
+Reading-sound n e = (e .tail < n) × (e .head < n) × (e .tail ≡ e .head → ⊥)
 
 -- an arc that is read from `at` up to `next`: a number for its tail, one for its head, and nothing wrong with them
 pub record ArcRead (s : List ℕ) (n at : ℕ) (e : Arc) (next : ℕ) : Type 0 where
   pub mid : ℕ
   pub tail-read : number-at s at ≡ got (e .tail) mid
   pub head-read : number-at s mid ≡ got (e .head) next
-  pub sound : Sound n e
+  pub sound : Reading-sound n e
 
 -- a file that is read whole, with room for a tails and b heads
 pub record FileRead (s : List ℕ) (a b : ℕ) (g : Given) (end : ℕ) : Type 0 where
@@ -54,7 +52,7 @@ pub record FileRead (s : List ℕ) (a b : ℕ) (g : Given) (end : ℕ) : Type 0 
   pub ends : length s ≤ end
 
 -- the arcs of a network that a call accepts are between different zones
-acceptable-sound : (g : Given) → Acceptable g → (x : Arc) → In x (g .arcs) → Sound (g .zones) x
+acceptable-sound : (g : Given) → Acceptable g → (x : Arc) → In x (g .arcs) → Reading-sound (g .zones) x
 acceptable-sound g h x i = (h .tails i, h .heads i, h .apart i)
 
 module _ (s : List ℕ) (n : ℕ) where
@@ -202,13 +200,13 @@ module _ (s : List ℕ) (bytes : Bytes s) where
 
 -- every arc that is read is between two different zones
 arcs-sound : (s : List ℕ) (n m at : ℕ) {es : List Arc} {end : ℕ} → arcs-at s n m at ≡ got es end
-    → (x : Arc) → In x es → Sound n x
+    → (x : Arc) → In x es → Reading-sound n x
 unfolding arcs-at
 arcs-sound s n zero at e x i = absurd (List·Memᴰ·not-nil (subst (In x) (sym (got-value e)) i))
 arcs-sound s n (suc m) at e x i =
     let r = arcs-got s n m at e in
     elim (List·Memᴰ·cases-cons (subst (In x) (sym (r .5)) i)) [
-      | inl p ↦ subst (Sound n) (sym p) (arc-got s n at (r .3) .sound)
+      | inl p ↦ subst (Reading-sound n) (sym p) (arc-got s n at (r .3) .sound)
       | inr j ↦ arcs-sound s n m (r .1) (r .4) x j
     ]
 
@@ -216,7 +214,7 @@ arcs-sound s n (suc m) at e x i =
 pub accepted-acceptable : (s : List ℕ) (a b : ℕ) {g : Given} {end : ℕ} → file-at s a b ≡ got g end → Acceptable g
 accepted-acceptable s a b {g} e =
     let r = file-read s a b e in
-    let sound : (x : Arc) → In x (g .arcs) → Sound (g .zones) x = arcs-sound s _ _ _ (r .arcs-read) in
+    let sound : (x : Arc) → In x (g .arcs) → Reading-sound (g .zones) x = arcs-sound s _ _ _ (r .arcs-read) in
     record {
       zones-least = r .zones-fit .0;
       zones-most = r .zones-fit .1;
@@ -234,7 +232,7 @@ module _ (s : List ℕ) where
   stands-zone n at {z} k h f = rw (stands-number s at (omega arith) f, lt-leb n z h)
 
   -- where the bytes of an arc stand, it is read
-  stands-arc : (n at : ℕ) {next : ℕ} (e : Arc) → n ≤ 1024 → Sound n e → Stands s at (arc-bytes e) next
+  stands-arc : (n at : ℕ) {next : ℕ} (e : Arc) → n ≤ 1024 → Reading-sound n e → Stands s at (arc-bytes e) next
       → arc-at s n at ≡ got e next
   unfolding arc-at arc-bytes
   stands-arc n at e k h f =
@@ -243,7 +241,7 @@ module _ (s : List ℕ) where
       rw (t, d, ne-eqb (e .tail) (e .head) (h .2))
 
   -- where the bytes of arcs stand, they are read
-  stands-arcs : (n at : ℕ) {end : ℕ} (es : List Arc) → n ≤ 1024 → ((x : Arc) → In x es → Sound n x)
+  stands-arcs : (n at : ℕ) {end : ℕ} (es : List Arc) → n ≤ 1024 → ((x : Arc) → In x es → Reading-sound n x)
       → Stands s at (arcs-bytes es) end → arcs-at s n (length es) at ≡ got es end
   unfolding arcs-at arcs-bytes
   stands-arcs n at {end} [] k h f = ap (got []) (let z : at ≡ end = omega arith in z)
@@ -295,28 +293,6 @@ read-written g a b h ra rb =
 -- lists of 4,096 elements have room for every written file
 pub written-accepted : (g : Given) → Acceptable g → file-at (file-bytes g) 4096 4096 ≡ got g (length (file-bytes g))
 written-accepted g h = read-written g 4096 4096 h (h .arcs-most) (h .arcs-most)
-
--- arcs between zones are written in bytes
-arcs-written : (n : ℕ) (es : List Arc) → n ≤ 1024 → ((x : Arc) → In x es → Sound n x) → Bytes (arcs-bytes es)
-unfolding arcs-bytes arc-bytes
-arcs-written n [] k h = bytes-none
-arcs-written n (e ∷ es) k h =
-    let f = h e (List·Memᴰ·head refl) in
-    bytes-join (arc-bytes e) (arcs-bytes es)
-    (bytes-join (number-bytes (e .tail)) (number-bytes (e .head))
-    (number-bytes-bytes (e .tail) (omega arith))
-    (number-bytes-bytes (e .head) (omega arith)))
-    (arcs-written n es k (λ x i. h x (List·Memᴰ·tail i)))
-
--- a network that a call accepts is written in bytes
-pub written-bytes : (g : Given) → Acceptable g → Bytes (file-bytes g)
-unfolding file-bytes
-written-bytes g h =
-    let n = g .zones in
-    let m = length (g .arcs) in
-    bytes-join (number-bytes n) _ (number-bytes-bytes n (omega (arith, h .zones-most)))
-    (bytes-join (number-bytes m) _ (number-bytes-bytes m (omega (arith, h .arcs-most)))
-    (arcs-written (g .zones) (g .arcs) (h .zones-most) (acceptable-sound g h)))
 
 -- two networks that calls accept have the same file exactly when they have the same zones and arcs
 pub same-file-same-network : (g h : Given) → Acceptable g → Acceptable h → (file-bytes g ≡ file-bytes h) ↔ (g ≡ h)

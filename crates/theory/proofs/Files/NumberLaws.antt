@@ -6,8 +6,6 @@
 --   Split n                  a number below 2 ^ 21, taken apart into its groups
 --   number-stands, stands-number      a number is read exactly where the bytes that it is written as stand
 --   number-bytes-bytes       a number is written in bytes
---   number-written-read      reading undoes writing
---   number-read-written      what is read is, byte for byte, what the number is written as
 --   length-one, length-two, length-three, length-short, length-bounds      how many bytes a number has
 --   number-next, number-alike         how far a number reaches, and that only its own three bytes matter
 -- The tests of a reading that succeeds give its groups, and the groups pass those tests; from groups to bytes it is
@@ -312,18 +310,6 @@ module _ (s : List ℕ) (at : ℕ) where
   pub stands-number : {n next : ℕ} → n < 2097152 → Stands s at (number-bytes n) next → number-at s at ≡ got n next
   stands-number h f = groups-number s at (stand-groups h f)
 
-  -- only the shortest form is read: a number that is read is below 2 ^ 21, and the bytes from its place up to the
-  -- next are those that it is written as
-  pub number-read-written : {n next : ℕ} → Bytes s → number-at s at ≡ got n next
-      → (n < 2097152) × (next ≡ at + length (number-bytes n))
-      × (take (length (number-bytes n)) (drop at s) ≡ number-bytes n)
-  number-read-written {n} {next} bytes e =
-      let f = number-stands bytes e in (
-        f .0,
-        f .1 .places,
-        ap (take (length (number-bytes n))) (f .1 .bytes) ∙ take-append-seam (number-bytes n) (drop next s),
-      )
-
   -- a number that is read and below 16,384 has at most two bytes
   pub number-next : {n next : ℕ} → number-at s at ≡ got n next → n < 16384 → (at < next) × (next ≤ at + 2)
   number-next e h =
@@ -332,14 +318,6 @@ module _ (s : List ℕ) (at : ℕ) where
         | two a b f g z k n p ↦ omega arith
         | three a b c f g l z k n p ↦ omega arith
       ]
-
--- reading undoes writing
-pub number-written-read : (xs ys : List ℕ) (n : ℕ) → n < 2097152
-    → number-at (xs ++ (number-bytes n ++ ys)) (length xs) ≡ got n (length xs + length (number-bytes n))
-number-written-read xs ys n h =
-    let s = xs ++ (number-bytes n ++ ys) in
-    stands-number s (length xs) h
-    (stands-at s (length xs) (number-bytes n) ys (drop-append-seam xs (number-bytes n ++ ys)))
 
 -- a number is read alike from two lists that hold the same bytes there
 pub number-alike : (s t : List ℕ) (at : ℕ) → at + 2 < length s → at + 2 < length t

@@ -15,11 +15,11 @@ use mathlib.Core.Bool.{Bool, true, false, cond}
 use mathlib.Core.List.{List, [], _∷_, _++_, append-assoc, append-nil}
 use lib.ListN.{length, getD, drop, length-append, length-drop, drop-of-length-le}
 use lib.Seq.{drop-cons, drop-drop, drop-length, drop-append-seam, getD-drop}
-use Rattle.rules.specs.Answers.{Refusal}
+use Rattle.rules.specs.declared.Trouble.{Trouble}
 use Rattle.rules.specs.Number.{Reading, got, bad, then, unless}
 
 -- a reading cannot both succeed and be a refusal
-pub bad-not-got : {A : Type 0} {t : Refusal} {x : A} {k : ℕ} → bad t ≡ got x k → ⊥
+pub bad-not-got : {A : Type 0} {t : Trouble} {x : A} {k : ℕ} → bad t ≡ got x k → ⊥
 bad-not-got e = let z : _≡_ {A = ℕ} 0 1 = cc in omega arith
 
 -- equal readings have equal values
@@ -31,7 +31,7 @@ pub got-place : {A : Type 0} {x y : A} {k l : ℕ} → got x k ≡ got y l → k
 got-place e = cc
 
 -- a reading that succeeds past a test: the test did not fail, and the reading after it succeeds
-pub unless-got : {A : Type 0} (b : Bool) (t : Refusal) (r : Reading A) {x : A} {k : ℕ}
+pub unless-got : {A : Type 0} (b : Bool) (t : Trouble) (r : Reading A) {x : A} {k : ℕ}
     → unless b t r ≡ got x k → (b ≡ false) × (r ≡ got x k)
 unless-got true t r e = absurd (bad-not-got e)
 unless-got false t r e = (refl, e)
@@ -49,7 +49,7 @@ then-alike (got x at) f g e h = h x at refl ∙ ap (λ p. then p g) e
 then-alike (bad t) f g e h = ap (λ p. then p g) e
 
 -- readings that go on alike past the same test
-pub unless-alike : {A : Type 0} (b : Bool) (t : Refusal) (q r : Reading A) → (b ≡ false → q ≡ r)
+pub unless-alike : {A : Type 0} (b : Bool) (t : Trouble) (q r : Reading A) → (b ≡ false → q ≡ r)
     → unless b t q ≡ unless b t r
 unless-alike true t q r h = refl
 unless-alike false t q r h = h refl

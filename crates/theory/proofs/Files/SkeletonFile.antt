@@ -11,11 +11,11 @@ use native.Mathlib.Nat.{le-trans}
 use mathlib.Core.Path.{_≡_, ap}
 use mathlib.Core.Logic.{_↔_}
 use mathlib.Core.List.{List·Memᴰ as In}
-use Rattle.rules.specs.Lists.{run}
+use Rattle.rules.specs.Lists.{span}
 use Rattle.rules.specs.Network.{Network, network-of, Proper, Reach}
 use Rattle.rules.specs.Skeleton.{skeleton}
 use Rattle.rules.specs.File.{Given, Acceptable, file-bytes}
-use Rattle.theory.proofs.Ground.Ascending.{run-in, in-run, network-proper}
+use Rattle.theory.proofs.Ground.Ascending.{span-in, in-span, network-proper}
 use Rattle.theory.proofs.Skeletons.SkeletonLaws.{skeleton-ends, skeleton-apart}
 use Rattle.theory.proofs.Skeletons.SkeletonSame.{skeleton-agree, skeleton-decides}
 use Rattle.theory.proofs.Skeletons.SkeletonLeast.{skeleton-short}
@@ -35,11 +35,11 @@ given-proper g h = network-proper (g .zones) (g .arcs) (λ a b m. (h .tails m, h
 
 -- a zone of a network that a file holds is a number below the zone count
 zone-below : (g : Given) {a : ℕ} → In a (network-given g .zones) → a < g .zones
-zone-below g m = omega (arith, run-in 0 (g .zones) m .1)
+zone-below g m = omega (arith, span-in 0 (g .zones) m .1)
 
 -- a number below the zone count is a zone
 below-zone : (g : Given) {a : ℕ} → a < g .zones → In a (network-given g .zones)
-below-zone g h = in-run 0 (g .zones) (omega arith) (omega arith)
+below-zone g h = in-span 0 (g .zones) (omega arith) (omega arith)
 
 -- the skeleton of a network that a call accepts is a network that a call accepts
 pub skeleton-accepted : (g : Given) → Acceptable g → Acceptable (skeleton-given g)
@@ -69,10 +69,10 @@ skeleton-same g h p q =
     let Q = given-proper h q in (
       λ e.
           let z : g .zones ≡ h .zones = ap (λ (k : Given). k .zones) e in
-          let r = skeleton-decides P Q (ap (run 0) z) (ap (λ (k : Given). k .arcs) e) in
+          let r = skeleton-decides P Q (ap (span 0) z) (ap (λ (k : Given). k .arcs) e) in
           (z, λ a b i j. r a b (below-zone g i) (below-zone g j)),
       λ r.
-          let s = skeleton-agree P Q (ap (run 0) (r .0)) (λ a b i j. r .1 a b (zone-below g i) (zone-below g j)) in
+          let s = skeleton-agree P Q (ap (span 0) (r .0)) (λ a b i j. r .1 a b (zone-below g i) (zone-below g j)) in
           λ k. record { zones = r .0 k; arcs = s k },
     )
 

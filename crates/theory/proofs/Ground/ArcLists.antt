@@ -1,6 +1,7 @@
 -- The arcs that a tail list and a head list hand in.
 --   arcs-length   there are as many arcs as tails
 --   index-arcs    what stands at one index of both lists is an arc
+--   arcs-split    the arcs of the tails and the heads of arcs are the arcs
 -- By induction on the tails. Assumes nothing.
 use mathlib.Core.Path.{_≡_, refl, ap}
 use mathlib.Core.List.{List, [], _∷_, zipWith, List·Memᴰ as In, List·Memᴰ·head, List·Memᴰ·tail}
@@ -8,7 +9,7 @@ use Prim.Native.Nat.{ℕ, zero, suc, _<_}
 use native.Mathlib.Nat.{not-suc-le-zero}
 use native.Mathlib.Omega.{arith}
 use lib.ListN.{length, getD}
-use Rattle.rules.specs.Network.{_⟶_}
+use Rattle.rules.specs.Network.{Arc, _⟶_, arc-tails, arc-heads}
 use Rattle.rules.specs.Calls.{arcs-of}
 
 -- there are as many arcs as tails
@@ -26,3 +27,9 @@ index-arcs [] hs k l h = absurd (not-suc-le-zero l)
 index-arcs (t ∷ ts) [] k l h = absurd (not-suc-le-zero h)
 index-arcs (t ∷ ts) (x ∷ hs) zero l h = List·Memᴰ·head refl
 index-arcs (t ∷ ts) (x ∷ hs) (suc k) l h = List·Memᴰ·tail (index-arcs ts hs k (omega arith) (omega arith))
+
+-- the arcs of the tails and the heads of arcs are the arcs
+pub arcs-split : (es : List Arc) → arcs-of (arc-tails es) (arc-heads es) ≡ es
+unfolding arcs-of zipWith
+arcs-split [] = refl
+arcs-split (e ∷ es) = ap (λ (l : List Arc). e ∷ l) (arcs-split es)

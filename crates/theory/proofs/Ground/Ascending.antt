@@ -1,6 +1,6 @@
 -- Laws of lists that ascend.
 --   above-ascending, above-lower  what ascends from above a number ascends, and does so from above a lower one
---   run-in, in-run, run-ascending, run-length   the numbers in a row
+--   span-in, in-span, span-ascending, span-length   the numbers in a row
 --   keep-ascending                what a test keeps of a list that ascends
 --   first-lowest                  the first element that passes is the lowest
 --   network-proper                document 01's network of n zones is proper
@@ -13,7 +13,7 @@ use mathlib.Core.List.{List, [], _∷_, List·Memᴰ as In, List·Memᴰ·head, 
 use native.Mathlib.Omega.{arith}
 use native.Mathlib.Decide.{ℕ-discrete}
 use lib.ListN.{length}
-use Rattle.rules.specs.Lists.{keep, first, run}
+use Rattle.rules.specs.Lists.{keep, first, span}
 use Rattle.rules.specs.Network.{Above, Ascending, Arc, _⟶_, Proper, network-of}
 use Rattle.theory.proofs.Ground.Bools.{bool-cases, true-not-false}
 use Rattle.theory.proofs.Ground.Lists.{first-hit, first-miss, keep-hit, keep-miss}
@@ -30,37 +30,37 @@ above-lower [] l h = tt
 above-lower (x ∷ xs) l h = (omega arith, h .1)
 
 -- the numbers in a row from a on are at least a and below a + n
-pub run-in : (a n : ℕ) {x : ℕ} → In x (run a n) → (a ≤ x) × (x < a + n)
-run-in a zero m = elim m [ ]
-run-in a (suc n) {x} m =
+pub span-in : (a n : ℕ) {x : ℕ} → In x (span a n) → (a ≤ x) × (x < a + n)
+span-in a zero m = elim m [ ]
+span-in a (suc n) {x} m =
     elim (List·Memᴰ·cases-cons m) [
       | inl e ↦ omega arith
-      | inr k ↦ let r = run-in (suc a) n k in omega arith
+      | inr k ↦ let r = span-in (suc a) n k in omega arith
     ]
 
 -- a number that is at least a and below a + n is in the row
-pub in-run : (a n : ℕ) {x : ℕ} → a ≤ x → x < a + n → In x (run a n)
-in-run a zero l h = absurd (omega arith)
-in-run a (suc n) {x} l h =
+pub in-span : (a n : ℕ) {x : ℕ} → a ≤ x → x < a + n → In x (span a n)
+in-span a zero l h = absurd (omega arith)
+in-span a (suc n) {x} l h =
     elim (ℕ-discrete x a) [
       | yes e ↦ List·Memᴰ·head e
-      | no k ↦ List·Memᴰ·tail (in-run (suc a) n (omega arith) (omega arith))
+      | no k ↦ List·Memᴰ·tail (in-span (suc a) n (omega arith) (omega arith))
     ]
 
 -- a row that begins above a number ascends from above it
-run-above : (a b n : ℕ) → a < b → Above a (run b n)
-run-above a b zero h = tt
-run-above a b (suc n) h = (h, run-above b (suc b) n (omega arith))
+span-above : (a b n : ℕ) → a < b → Above a (span b n)
+span-above a b zero h = tt
+span-above a b (suc n) h = (h, span-above b (suc b) n (omega arith))
 
 -- a row ascends
-pub run-ascending : (a n : ℕ) → Ascending (run a n)
-run-ascending a zero = tt
-run-ascending a (suc n) = run-above a (suc a) n (omega arith)
+pub span-ascending : (a n : ℕ) → Ascending (span a n)
+span-ascending a zero = tt
+span-ascending a (suc n) = span-above a (suc a) n (omega arith)
 
 -- a row of n numbers has n numbers
-pub run-length : (a n : ℕ) → length (run a n) ≡ n
-run-length a zero = refl
-run-length a (suc n) = ap suc (run-length (suc a) n)
+pub span-length : (a n : ℕ) → length (span a n) ≡ n
+span-length a zero = refl
+span-length a (suc n) = ap suc (span-length (suc a) n)
 
 module _ (p : ℕ → Bool) where
   -- what a test keeps ascends from above whatever the list does
@@ -101,7 +101,7 @@ pub network-proper : (n : ℕ) (es : List Arc)
     → ((a b : ℕ) → In (a ⟶ b) es → (a < n) × (b < n)) → Proper (network-of n es)
 network-proper n es h =
     record {
-      ascending = run-ascending 0 n;
-      tails = λ {a} {b} m. let l = h a b m in in-run 0 n (omega arith) (omega arith);
-      heads = λ {a} {b} m. let l = h a b m in in-run 0 n (omega arith) (omega arith);
+      ascending = span-ascending 0 n;
+      tails = λ {a} {b} m. let l = h a b m in in-span 0 n (omega arith) (omega arith);
+      heads = λ {a} {b} m. let l = h a b m in in-span 0 n (omega arith) (omega arith);
     }

@@ -202,10 +202,6 @@ module _ (r : ℕ → ℕ → Bool) where
       (λ k. part-some (λ (c : Couple). c .w) (o .pairs) (made-lone-source m k (d .1) (d .2)))
       (List·Memᴰ·append-cases (paired-sources o) (shuffled-in (made-sources m) n))
 
-  -- no source stands twice in the ordering where none does in the given list
-  pub made-sources-distinct : {vs ws : List ℕ} {o : Ordering} → Made r vs ws o → Distinct vs → Distinct (sources-of o)
-  made-sources-distinct m d = shuffled-distinct (made-sources m) d
-
   -- no sink stands twice in the ordering where none does in the given list
   pub made-sinks-distinct : {vs ws : List ℕ} {o : Ordering} → Made r vs ws o → Distinct ws → Distinct (sinks-of o)
   made-sinks-distinct m d = distinct-shuffled (made-sinks m) d

@@ -15,7 +15,7 @@ use lib.Dec.{leb}
 use lib.ListN.{length}
 use Rattle.rules.specs.Lists.{keep}
 use Rattle.rules.specs.Network.{Network, Reach, Proper, reaches, strong}
-use Rattle.rules.specs.Components.{names, entered, left, sources, sinks, alone}
+use Rattle.rules.specs.Components.{names, entered, exited, sources, sinks, alone}
 use Rattle.rules.specs.Skeleton.{skeleton}
 use Rattle.rules.specs.Plan.{
   Ordering,
@@ -46,18 +46,18 @@ use Rattle.theory.proofs.Skeletons.Alike.{strong-alike, names-alike}
 use Rattle.theory.proofs.Skeletons.SkeletonSame.{same-skeleton-alike}
 
 -- where an arc leaves c's component in one network, an arc leaves it in the other
-left-carries : {M N : Network} → Alike M N → {c : ℕ} → In c (M .zones) → left M c ≡ true → left N c ≡ true
+left-carries : {M N : Network} → Alike M N → {c : ℕ} → In c (M .zones) → exited M c ≡ true → exited N c ≡ true
 left-carries {M} {N} A {c} i h =
     let o : Out M c = left-true (A .proper) c h in
     let z : ℕ = o .0 .head in
     let k : In z (M .zones) = A .proper .heads (o .1) in
     let r : Reach M c z = reach-trans (o .2 .1) (reach-arc (o .1)) in
-    true-unless (left N c) (λ f.
+    true-unless (exited N c) (λ f.
     let t : Together N c z = left-closed (A .proper-other) f (A .reach-same c z i k .0 r) in
     o .3 (A .reach-same z c k i .1 (t .1), r))
 
 -- an arc leaves c's component in both or in neither
-pub left-alike : {M N : Network} → Alike M N → {c : ℕ} → In c (M .zones) → left M c ≡ left N c
+pub left-alike : {M N : Network} → Alike M N → {c : ℕ} → In c (M .zones) → exited M c ≡ exited N c
 left-alike A i = bool-agree (left-carries A i) (left-carries (alike-sym A) (in-along (A .zones-same) i))
 
 -- an arc comes into c's component in both or in neither
@@ -69,11 +69,11 @@ entered-alike A {c} i =
 module _ {M N : Network} (A : Alike M N) where
   -- the names that pass a test of what comes in and goes out are the same
   kind-alike : (t : Bool → Bool → Bool)
-      → keep (λ c. t (left M c) (entered M c)) (names M) ≡ keep (λ c. t (left N c) (entered N c)) (names N)
+      → keep (λ c. t (exited M c) (entered M c)) (names M) ≡ keep (λ c. t (exited N c) (entered N c)) (names N)
   kind-alike t =
-      keep-agree (λ c. t (left M c) (entered M c)) (λ c. t (left N c) (entered N c)) (names M)
+      keep-agree (λ c. t (exited M c) (entered M c)) (λ c. t (exited N c) (entered N c)) (names M)
       (λ c m. let z = names-zone M m .0 in ap₂ t (left-alike A z) (entered-alike A z))
-      ∙ ap (keep (λ c. t (left N c) (entered N c))) (names-alike A)
+      ∙ ap (keep (λ c. t (exited N c) (entered N c))) (names-alike A)
 
   -- the sources are the same
   pub sources-alike : sources M ≡ sources N

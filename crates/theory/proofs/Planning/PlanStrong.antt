@@ -1,7 +1,6 @@
 -- With the plan's links added every zone reaches every zone.
 --   pairing-properties   document 000's properties (1) to (3) hold of the ordering of a network
---   plan-properties      they hold of the ordering on which the plan rests
---   pairs-some           there is a pair where there is a source;   plan-pairs-some   so p ≥ 1 where s ≥ 1
+--   pairs-some           there is a pair where there is a source
 --   upright-closes       where the links of the rule for s ≤ t have related ends, any two zones are related
 --   plan-of-strong, plan-of-upright, plan-of-turned   the plan in each of its three cases
 --   plan-strong          the network with its plan's links is strong
@@ -77,11 +76,6 @@ links-tied N ls l m = reach-arc (Memᴰ·append-right (N .arcs) (in-map (λ (k :
 some-in : (xs : List ℕ) → 1 ≤ length xs → (x : ℕ) × In x xs
 some-in [] h = absurd (omega arith)
 some-in (x ∷ xs) h = (x, List·Memᴰ·head refl)
-
--- a list that has an element has one or more
-in-some : {x : ℕ} {xs : List ℕ} → In x xs → 1 ≤ length xs
-in-some (List·Memᴰ·head e) = omega arith
-in-some (List·Memᴰ·tail m) = omega arith
 
 module _ {N : Network} (P : Proper N) where
   -- every source reaches some sink, by the test
@@ -242,20 +236,3 @@ module _ {N : Network} (P : Proper N) where
         | inl u ↦ rw (upright-same N u) P
         | inr u ↦ rw (upright-other N u) (turned-proper P)
       ]
-
-  -- document 000's properties (1) to (3) hold of the ordering on which the plan rests
-  pub plan-properties : Properties (Reach (upright N)) (ordering (upright N))
-  plan-properties = pairing-properties upright-proper
-
-  -- the network on which the rule runs has a source where the network has one
-  upright-some : 1 ≤ length (sources N) → 1 ≤ length (sources (upright N))
-  upright-some h =
-      elim (bool-cases (is-upright N)) [
-        | inl u ↦ rw (upright-same N u) h
-        | inr u ↦ rw (upright-other N u, turned-sources P) (in-some (source-down P _ (some-in (sources N) h .1) .1))
-      ]
-
-  -- p ≥ 1 where s ≥ 1
-  pub plan-pairs-some : 1 ≤ length (sources N) → 1 ≤ plan-pairs N
-  unfolding plan-pairs
-  plan-pairs-some h = pairs-some upright-proper (upright-some h)

@@ -13,7 +13,7 @@ use native.Mathlib.Omega.{arith}
 use lib.ListN.{length}
 use Rattle.rules.specs.Lists.{keep}
 use Rattle.rules.specs.Network.{Network, Proper, Reach, reaches}
-use Rattle.rules.specs.Components.{name, names, left, entered}
+use Rattle.rules.specs.Components.{name, names, exited, entered}
 use Rattle.rules.specs.Plan.{turned}
 use Rattle.theory.proofs.Ground.Bools.{bool-cases, false-unless}
 use Rattle.theory.proofs.Ground.Counting.{fewer-keep}
@@ -28,7 +28,7 @@ reach-count N z = length (keep (reaches N z) (N .zones))
 
 -- a component with no arc out that z reaches
 abbrev pub Below : Network → ℕ → Type 0
-Below N z = (c : ℕ) × In c (names N) × (left N c ≡ false) × Reach N z c
+Below N z = (c : ℕ) × In c (names N) × (exited N c ≡ false) × Reach N z c
 
 -- a component with no arc in that reaches z
 abbrev pub Over : Network → ℕ → Type 0
@@ -56,7 +56,7 @@ module _ {N : Network} (P : Proper N) where
   down-within : (n : ℕ) {z : ℕ} → In z (N .zones) → reach-count N z < n → Below N z
   down-within zero i l = absurd (omega arith)
   down-within (suc n) {z} i l =
-      elim (bool-cases (left N z)) [
+      elim (bool-cases (exited N z)) [
         | inl e ↦
             let r = left-true P z e in
             let d = down-within n (P .heads (r .1)) (let f = out-fewer i r in omega arith) in

@@ -16,7 +16,7 @@ use native.Mathlib.Omega.{arith}
 use lib.ListN.{length}
 use Rattle.rules.specs.Lists.{every}
 use Rattle.rules.specs.Network.{Network, Proper, Reach, Strong, reaches, strong}
-use Rattle.rules.specs.Components.{name, left, entered, sources, sinks, alone}
+use Rattle.rules.specs.Components.{name, exited, entered, sources, sinks, alone}
 use Rattle.theory.proofs.Ground.Bools.{true-not-false, true-unless}
 use Rattle.theory.proofs.Ground.Lists.{every-false}
 use Rattle.theory.proofs.Ground.Few.{none-in, length-none, only-in, two-in}
@@ -74,7 +74,7 @@ module _ {N : Network} (P : Proper N) (S : Strong N) where
   strong-one {a} {b} i j = (S a b i j, S b a j i)
 
   -- in a strong network no arc goes out of a component
-  strong-left : {c : ℕ} → In c (N .zones) → left N c ≡ false
+  strong-left : {c : ℕ} → In c (N .zones) → exited N c ≡ false
   strong-left {c} i = false-left P c (λ r. r .3 (strong-one (P .heads (r .1)) i))
 
   -- in a strong network no arc comes into a component

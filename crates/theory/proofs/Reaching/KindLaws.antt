@@ -1,11 +1,11 @@
 -- What the tests of the kinds say.
 --   Out N c, Into N c   some arc goes out of c's component; some arc comes into it
---   left-true, true-left, left-false, false-left              `left` tells exactly whether `Out` holds; `entered`
+--   left-true, true-left, left-false, false-left              `exited` tells exactly whether `Out` holds; `entered`
 --   entered-true, true-entered, entered-false, false-entered  tells it of `Into`
 --   left-closed         what a component with no arc out reaches lies in it
 --   entered-closed      what reaches a component with no arc in lies in it
 --   kinds-agree         zones of one component are left and entered alike
---   source-is, is-source, and so for sinks, alone and inner   what is in the lists of the kinds
+--   source-is, is-source, and so for sinks and alone   what is in the lists of the kinds
 --   sources-ascending, sources-distinct, and so for sinks and alone   they ascend, so none is listed twice
 -- `Out` and `Into` differ in which end of the arc lies inside, so both are shown once, for the two ends as parameters.
 -- Assumes nothing.
@@ -17,7 +17,7 @@ use mathlib.Core.List.{List·Memᴰ as In}
 use borrow.Author.Tests.{not-true}
 use Rattle.rules.specs.Lists.{any}
 use Rattle.rules.specs.Network.{Arc, _⟶_, Network, Proper, Reach, same, step, Ascending}
-use Rattle.rules.specs.Components.{together, names, left, entered, sources, sinks, alone, inner}
+use Rattle.rules.specs.Components.{together, names, exited, entered, sources, sinks, alone}
 use Rattle.theory.proofs.Ground.Bools.{bool-cases, bool-agree, and-true, true-and, true-not-false, true-unless}
 use Rattle.theory.proofs.Ground.Bools.{false-unless, false-not}
 use Rattle.theory.proofs.Ground.Lists.{any-true, true-any, keep-in, in-keep}
@@ -70,23 +70,23 @@ module _ {N : Network} (P : Proper N) (f g : Arc → ℕ) where
       move u r = (r .0, r .1, together-trans (r .2) u, λ w. r .3 (together-trans w (together-sym u)))
 
 module _ {N : Network} (P : Proper N) where
-  -- where `left` says yes, some arc goes out
-  pub left-true : (c : ℕ) → left N c ≡ true → Out N c
-  unfolding left
+  -- where `exited` says yes, some arc goes out
+  pub left-true : (c : ℕ) → exited N c ≡ true → Out N c
+  unfolding exited
   left-true c h = cross-true P (λ e. e .tail) (λ e. e .head) c h
 
-  -- where some arc goes out, `left` says yes
-  pub true-left : {c : ℕ} → Out N c → left N c ≡ true
-  unfolding left
+  -- where some arc goes out, `exited` says yes
+  pub true-left : {c : ℕ} → Out N c → exited N c ≡ true
+  unfolding exited
   true-left r = true-cross P (λ e. e .tail) (λ e. e .head) r
 
-  -- where `left` says no, no arc goes out
-  pub left-false : (c : ℕ) → left N c ≡ false → Out N c → ⊥
+  -- where `exited` says no, no arc goes out
+  pub left-false : (c : ℕ) → exited N c ≡ false → Out N c → ⊥
   left-false c h r = true-not-false (true-left r) h
 
-  -- where no arc goes out, `left` says no
-  pub false-left : (c : ℕ) → (Out N c → ⊥) → left N c ≡ false
-  false-left c n = false-unless (left N c) (λ h. n (left-true c h))
+  -- where no arc goes out, `exited` says no
+  pub false-left : (c : ℕ) → (Out N c → ⊥) → exited N c ≡ false
+  false-left c n = false-unless (exited N c) (λ h. n (left-true c h))
 
   -- where `entered` says yes, some arc comes in
   pub entered-true : (c : ℕ) → entered N c ≡ true → Into N c
@@ -107,24 +107,24 @@ module _ {N : Network} (P : Proper N) where
   false-entered c n = false-unless (entered N c) (λ h. n (entered-true c h))
 
   -- zones of one component are left and entered alike
-  pub kinds-agree : {c d : ℕ} → Together N c d → (left N c ≡ left N d) × (entered N c ≡ entered N d)
-  unfolding left entered
+  pub kinds-agree : {c d : ℕ} → Together N c d → (exited N c ≡ exited N d) × (entered N c ≡ entered N d)
+  unfolding exited entered
   kinds-agree t =
       (cross-agree P (λ e. e .tail) (λ e. e .head) t, cross-agree P (λ e. e .head) (λ e. e .tail) t)
 
   -- an arc from a component with no arc out stays in it
-  left-stays : {c a b : ℕ} → left N c ≡ false → In (a ⟶ b) (N .arcs) → Together N a c → Together N b c
+  left-stays : {c a b : ℕ} → exited N c ≡ false → In (a ⟶ b) (N .arcs) → Together N a c → Together N b c
   left-stays {c} {a} {b} h m t =
       together-sound N b c
       (true-unless (together N b c) (λ e. left-false c h (a ⟶ b, m, t, λ u. true-not-false (together-complete P u) e)))
 
   -- what is reached from a zone of a component with no arc out lies in it
-  left-keeps : {c a b : ℕ} → left N c ≡ false → Together N a c → Reach N a b → Together N b c
+  left-keeps : {c a b : ℕ} → exited N c ≡ false → Together N a c → Reach N a b → Together N b c
   left-keeps {c} h t (same e) = rw e at t
   left-keeps {c} h t (step m r) = left-keeps h (left-stays h m t) r
 
   -- what a component with no arc out reaches lies in it
-  pub left-closed : {c d : ℕ} → left N c ≡ false → Reach N c d → Together N c d
+  pub left-closed : {c d : ℕ} → exited N c ≡ false → Reach N c d → Together N c d
   left-closed h r = together-sym (left-keeps h together-refl r)
 
 -- what reaches a component with no arc in lies in it
@@ -133,64 +133,51 @@ entered-closed P {c} h r = turned-one (left-closed (turned-proper P) (turned-lef
 
 module _ (N : Network) where
   -- a source is a name with arcs out and none in
-  pub source-is : {c : ℕ} → In c (sources N) → In c (names N) × (left N c ≡ true) × (entered N c ≡ false)
+  pub source-is : {c : ℕ} → In c (sources N) → In c (names N) × (exited N c ≡ true) × (entered N c ≡ false)
   unfolding sources
   source-is {c} m =
-      let r = keep-in (λ d. left N d && not (entered N d)) (names N) m in
-      let t = and-true (left N c) (not (entered N c)) (r .1) in
+      let r = keep-in (λ d. exited N d && not (entered N d)) (names N) m in
+      let t = and-true (exited N c) (not (entered N c)) (r .1) in
       (r .0, t .0, not-true (entered N c) (t .1))
 
   -- a name with arcs out and none in is a source
-  pub is-source : {c : ℕ} → In c (names N) → left N c ≡ true → entered N c ≡ false → In c (sources N)
+  pub is-source : {c : ℕ} → In c (names N) → exited N c ≡ true → entered N c ≡ false → In c (sources N)
   unfolding sources
-  is-source m l e = in-keep (λ d. left N d && not (entered N d)) m (true-and l (false-not e))
+  is-source m l e = in-keep (λ d. exited N d && not (entered N d)) m (true-and l (false-not e))
 
   -- a sink is a name with arcs in and none out
-  pub sink-is : {c : ℕ} → In c (sinks N) → In c (names N) × (entered N c ≡ true) × (left N c ≡ false)
+  pub sink-is : {c : ℕ} → In c (sinks N) → In c (names N) × (entered N c ≡ true) × (exited N c ≡ false)
   unfolding sinks
   sink-is {c} m =
-      let r = keep-in (λ d. entered N d && not (left N d)) (names N) m in
-      let t = and-true (entered N c) (not (left N c)) (r .1) in
-      (r .0, t .0, not-true (left N c) (t .1))
+      let r = keep-in (λ d. entered N d && not (exited N d)) (names N) m in
+      let t = and-true (entered N c) (not (exited N c)) (r .1) in
+      (r .0, t .0, not-true (exited N c) (t .1))
 
   -- a name with arcs in and none out is a sink
-  pub is-sink : {c : ℕ} → In c (names N) → entered N c ≡ true → left N c ≡ false → In c (sinks N)
+  pub is-sink : {c : ℕ} → In c (names N) → entered N c ≡ true → exited N c ≡ false → In c (sinks N)
   unfolding sinks
-  is-sink m e l = in-keep (λ d. entered N d && not (left N d)) m (true-and e (false-not l))
+  is-sink m e l = in-keep (λ d. entered N d && not (exited N d)) m (true-and e (false-not l))
 
   -- a component alone is a name with arcs neither in nor out
-  pub alone-is : {c : ℕ} → In c (alone N) → In c (names N) × (entered N c ≡ false) × (left N c ≡ false)
+  pub alone-is : {c : ℕ} → In c (alone N) → In c (names N) × (entered N c ≡ false) × (exited N c ≡ false)
   unfolding alone
   alone-is {c} m =
-      let r = keep-in (λ d. not (entered N d) && not (left N d)) (names N) m in
-      let t = and-true (not (entered N c)) (not (left N c)) (r .1) in
-      (r .0, not-true (entered N c) (t .0), not-true (left N c) (t .1))
+      let r = keep-in (λ d. not (entered N d) && not (exited N d)) (names N) m in
+      let t = and-true (not (entered N c)) (not (exited N c)) (r .1) in
+      (r .0, not-true (entered N c) (t .0), not-true (exited N c) (t .1))
 
   -- a name with arcs neither in nor out is a component alone
-  pub is-alone : {c : ℕ} → In c (names N) → entered N c ≡ false → left N c ≡ false → In c (alone N)
+  pub is-alone : {c : ℕ} → In c (names N) → entered N c ≡ false → exited N c ≡ false → In c (alone N)
   unfolding alone
-  is-alone m e l = in-keep (λ d. not (entered N d) && not (left N d)) m (true-and (false-not e) (false-not l))
-
-  -- an inner component is a name with arcs in and out
-  pub inner-is : {c : ℕ} → In c (inner N) → In c (names N) × (entered N c ≡ true) × (left N c ≡ true)
-  unfolding inner
-  inner-is {c} m =
-      let r = keep-in (λ d. entered N d && left N d) (names N) m in
-      let t = and-true (entered N c) (left N c) (r .1) in
-      (r .0, t .0, t .1)
-
-  -- a name with arcs in and out is an inner component
-  pub is-inner : {c : ℕ} → In c (names N) → entered N c ≡ true → left N c ≡ true → In c (inner N)
-  unfolding inner
-  is-inner m e l = in-keep (λ d. entered N d && left N d) m (true-and e l)
+  is-alone m e l = in-keep (λ d. not (entered N d) && not (exited N d)) m (true-and (false-not e) (false-not l))
 
   -- a component with no arc out is a sink or alone
-  pub end-kind : {c : ℕ} → In c (names N) → left N c ≡ false → In c (sinks N) ⊎ In c (alone N)
+  pub end-kind : {c : ℕ} → In c (names N) → exited N c ≡ false → In c (sinks N) ⊎ In c (alone N)
   end-kind {c} m l = elim (bool-cases (entered N c)) [ inl e ↦ inl (is-sink m e l) | inr e ↦ inr (is-alone m e l) ]
 
   -- a component with no arc in is a source or alone
   pub start-kind : {c : ℕ} → In c (names N) → entered N c ≡ false → In c (sources N) ⊎ In c (alone N)
-  start-kind {c} m e = elim (bool-cases (left N c)) [ inl l ↦ inl (is-source m l e) | inr l ↦ inr (is-alone m e l) ]
+  start-kind {c} m e = elim (bool-cases (exited N c)) [ inl l ↦ inl (is-source m l e) | inr l ↦ inr (is-alone m e l) ]
 
   -- no component is both a source and a sink
   pub source-not-sink : {c : ℕ} → In c (sources N) → In c (sinks N) → ⊥
@@ -208,17 +195,17 @@ module _ {N : Network} (P : Proper N) where
   -- the sources ascend
   pub sources-ascending : Ascending (sources N)
   unfolding sources
-  sources-ascending = keep-ascending (λ c. left N c && not (entered N c)) (names N) (names-ascending P)
+  sources-ascending = keep-ascending (λ c. exited N c && not (entered N c)) (names N) (names-ascending P)
 
   -- the sinks ascend
   pub sinks-ascending : Ascending (sinks N)
   unfolding sinks
-  sinks-ascending = keep-ascending (λ c. entered N c && not (left N c)) (names N) (names-ascending P)
+  sinks-ascending = keep-ascending (λ c. entered N c && not (exited N c)) (names N) (names-ascending P)
 
   -- the components alone ascend
   pub alone-ascending : Ascending (alone N)
   unfolding alone
-  alone-ascending = keep-ascending (λ c. not (entered N c) && not (left N c)) (names N) (names-ascending P)
+  alone-ascending = keep-ascending (λ c. not (entered N c) && not (exited N c)) (names N) (names-ascending P)
 
   -- no source is listed twice
   pub sources-distinct : Distinct (sources N)

@@ -5,7 +5,7 @@
 --   via-sound, via-complete           `via` tells exactly whether there is such a run
 --   reaches-sound, reaches-complete   `reaches` tells exactly whether a reaches b
 --   strong-sound, strong-complete     `strong` tells exactly whether every zone reaches every zone
---   reach-zone, reach-zone-back       what a zone reaches, or is reached from, is a zone
+--   reach-zone        what a zone reaches is a zone
 -- Both directions of `via` go by induction on the list of inner zones: a run over k ∷ ks splits at its visits to k,
 -- and this by induction on the run. So no run has to be shortened, and nothing is counted. Assumes nothing.
 use Prim.Native.Nat.{ℕ}
@@ -161,8 +161,3 @@ strong-complete {N} P S =
 pub reach-zone : {N : Network} → Proper N → {a b : ℕ} → In a (N .zones) → Reach N a b → In b (N .zones)
 reach-zone P i (same e) = Memᴰ·cast (sym e) i
 reach-zone P i (step m r) = reach-zone P (P .heads m) r
-
--- what reaches a zone is a zone
-pub reach-zone-back : {N : Network} → Proper N → {a b : ℕ} → In b (N .zones) → Reach N a b → In a (N .zones)
-reach-zone-back P i (same e) = Memᴰ·cast e i
-reach-zone-back P i (step m r) = P .tails m

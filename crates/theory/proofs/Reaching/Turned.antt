@@ -13,7 +13,7 @@ use mathlib.Core.List.{List, [], _∷_, map, List·Memᴰ as In, Memᴰ·cast}
 use lib.Dec.{eqb}
 use Rattle.rules.specs.Lists.{keep}
 use Rattle.rules.specs.Network.{Arc, _⟶_, Network, Proper, Reach, same, step, reaches, strong}
-use Rattle.rules.specs.Components.{together, name, is-name, names, left, entered, sources, sinks, alone}
+use Rattle.rules.specs.Components.{together, name, is-name, names, exited, entered, sources, sinks, alone}
 use Rattle.rules.specs.Plan.{turned}
 use Rattle.theory.proofs.Ground.Bools.{bool-agree}
 use Rattle.theory.proofs.Ground.Lists.{map-in, in-map, any-map, any-agree, keep-agree, first-agree}
@@ -102,8 +102,8 @@ module _ {N : Network} (P : Proper N) where
       keep-agree (is-name (turned N)) (is-name N) (N .zones) (λ x m. ap (λ (y : ℕ). eqb y x) (turned-name x))
 
   -- what an arc goes out of there, an arc comes into here
-  pub turned-left : (c : ℕ) → left (turned N) c ≡ entered N c
-  unfolding left entered turned
+  pub turned-left : (c : ℕ) → exited (turned N) c ≡ entered N c
+  unfolding exited entered turned
   turned-left c =
       any-map
       turned-end
@@ -117,17 +117,17 @@ module _ {N : Network} (P : Proper N) where
 
 module _ {N : Network} (P : Proper N) where
   -- what an arc comes into there, an arc goes out of here
-  pub turned-entered : (c : ℕ) → entered (turned N) c ≡ left N c
-  turned-entered c = sym (turned-left (turned-proper P) c) ∙ ap (λ (M : Network). left M c) (turned-twice N)
+  pub turned-entered : (c : ℕ) → entered (turned N) c ≡ exited N c
+  turned-entered c = sym (turned-left (turned-proper P) c) ∙ ap (λ (M : Network). exited M c) (turned-twice N)
 
   -- sources of the turned network are the sinks
   pub turned-sources : sources (turned N) ≡ sinks N
   unfolding sources sinks
   turned-sources =
-      ap (keep (λ c. left (turned N) c && not (entered (turned N) c))) (turned-names P)
+      ap (keep (λ c. exited (turned N) c && not (entered (turned N) c))) (turned-names P)
       ∙ keep-agree
-      (λ c. left (turned N) c && not (entered (turned N) c))
-      (λ c. entered N c && not (left N c))
+      (λ c. exited (turned N) c && not (entered (turned N) c))
+      (λ c. entered N c && not (exited N c))
       (names N)
       (λ c m. ap₂ (λ (x y : Bool). x && not y) (turned-left P c) (turned-entered c))
 
@@ -135,14 +135,14 @@ module _ {N : Network} (P : Proper N) where
   pub turned-alone : alone (turned N) ≡ alone N
   unfolding alone
   turned-alone =
-      ap (keep (λ c. not (entered (turned N) c) && not (left (turned N) c))) (turned-names P)
+      ap (keep (λ c. not (entered (turned N) c) && not (exited (turned N) c))) (turned-names P)
       ∙ keep-agree
-      (λ c. not (entered (turned N) c) && not (left (turned N) c))
-      (λ c. not (entered N c) && not (left N c))
+      (λ c. not (entered (turned N) c) && not (exited (turned N) c))
+      (λ c. not (entered N c) && not (exited N c))
       (names N)
       (λ c m.
       ap₂ (λ (x y : Bool). not x && not y) (turned-entered c) (turned-left P c)
-      ∙ and-comm (not (left N c)) (not (entered N c)))
+      ∙ and-comm (not (exited N c)) (not (entered N c)))
 
   -- the turned network is strong exactly when the network is
   pub turned-strong : strong (turned N) ≡ strong N

@@ -12,7 +12,7 @@ use mathlib.Core.Bool.{Bool, true, false}
 use Prim.Native.Nat.{ℕ, zero, suc, _+_, _-_, _≤_}
 use native.Mathlib.Omega.{arith}
 use lib.ListN.{length, length-append}
-use Rattle.rules.specs.Lists.{run, keep}
+use Rattle.rules.specs.Lists.{span, keep}
 use Rattle.rules.specs.Network.{Arc, _⟶_, Network}
 use Rattle.rules.specs.Skeleton.{pairs-of, in-skeleton, skeleton}
 
@@ -41,24 +41,24 @@ front-few : {xs : List Arc} (front rest : List Arc) → xs ≡ front ++ rest →
 front-few front rest e = omega (arith, ap length e ∙ length-append front rest)
 
 -- a run of numbers is cut anywhere
-run-append : (a m k : ℕ) → run a (m + k) ≡ run a m ++ run (a + m) k
-run-append a zero k = rw (zero-plus k, plus-zero a)
+span-append : (a m k : ℕ) → span a (m + k) ≡ span a m ++ span (a + m) k
+span-append a zero k = rw (zero-plus k, plus-zero a)
   where
     zero-plus : (k : ℕ) → 0 + k ≡ k
     zero-plus k = omega arith
 
     plus-zero : (a : ℕ) → a + 0 ≡ a
     plus-zero a = omega arith
-run-append a (suc m) k =
+span-append a (suc m) k =
     let front : suc m + k ≡ suc (m + k) = omega arith in
     let next : a + suc m ≡ suc a + m = omega arith in
-    rw (front, next) (ap {B = List ℕ} (λ l. a ∷ l) (run-append (suc a) m k))
+    rw (front, next) (ap {B = List ℕ} (λ l. a ∷ l) (span-append (suc a) m k))
 
 -- one number more
-pub run-more : (b : ℕ) → run 0 (b + 1) ≡ run 0 b ++ (b ∷ [])
-run-more b =
+pub span-more : (b : ℕ) → span 0 (b + 1) ≡ span 0 b ++ (b ∷ [])
+span-more b =
     let e : 0 + b ≡ b = omega arith in
-    rw e at (run-append 0 b 1)
+    rw e at (span-append 0 b 1)
 
 -- the rows of two lists of tails are put together
 rows-append : (hs ts us : List ℕ) → pair-rows hs (ts ++ us) ≡ pair-rows hs ts ++ pair-rows hs us
@@ -74,48 +74,48 @@ unfolding flatMap
 rows-one hs a = append-nil (pair-row hs a)
 
 -- no tail, no row
-pub rows-none : (p : Arc → Bool) (hs : List ℕ) → keep p (pair-rows hs (run 0 0)) ≡ []
+pub rows-none : (p : Arc → Bool) (hs : List ℕ) → keep p (pair-rows hs (span 0 0)) ≡ []
 unfolding flatMap
 rows-none p hs = refl
 
 -- one head more
 pub row-more : (p : Arc → Bool) (a b : ℕ)
-    → keep p (pair-row (run 0 (b + 1)) a) ≡ keep p (pair-row (run 0 b) a) ++ keep p ((a ⟶ b) ∷ [])
+    → keep p (pair-row (span 0 (b + 1)) a) ≡ keep p (pair-row (span 0 b) a) ++ keep p ((a ⟶ b) ∷ [])
 row-more p a b =
-    ap (λ (l : List ℕ). keep p (pair-row l a)) (run-more b)
-    ∙ ap (keep p) (map-append (λ (x : ℕ). a ⟶ x) (run 0 b) (b ∷ []))
-    ∙ keep-append p (pair-row (run 0 b) a) ((a ⟶ b) ∷ [])
+    ap (λ (l : List ℕ). keep p (pair-row l a)) (span-more b)
+    ∙ ap (keep p) (map-append (λ (x : ℕ). a ⟶ x) (span 0 b) (b ∷ []))
+    ∙ keep-append p (pair-row (span 0 b) a) ((a ⟶ b) ∷ [])
 
 -- the pairs to the first zones are no more than those to all
 pub row-few : (p : Arc → Bool) (a b n : ℕ) → b ≤ n
-    → length (keep p (pair-row (run 0 b) a)) ≤ length (keep p (pair-row (run 0 n) a))
+    → length (keep p (pair-row (span 0 b) a)) ≤ length (keep p (pair-row (span 0 n) a))
 row-few p a b n h =
     let sum : n ≡ b + (n - b) = omega arith in
-    front-few (keep p (pair-row (run 0 b) a)) (keep p (pair-row (run (0 + b) (n - b)) a))
-    (ap (λ (k : ℕ). keep p (pair-row (run 0 k) a)) sum
-    ∙ ap (λ (l : List ℕ). keep p (pair-row l a)) (run-append 0 b (n - b))
-    ∙ ap (keep p) (map-append (λ (x : ℕ). a ⟶ x) (run 0 b) (run (0 + b) (n - b)))
-    ∙ keep-append p (pair-row (run 0 b) a) (pair-row (run (0 + b) (n - b)) a))
+    front-few (keep p (pair-row (span 0 b) a)) (keep p (pair-row (span (0 + b) (n - b)) a))
+    (ap (λ (k : ℕ). keep p (pair-row (span 0 k) a)) sum
+    ∙ ap (λ (l : List ℕ). keep p (pair-row l a)) (span-append 0 b (n - b))
+    ∙ ap (keep p) (map-append (λ (x : ℕ). a ⟶ x) (span 0 b) (span (0 + b) (n - b)))
+    ∙ keep-append p (pair-row (span 0 b) a) (pair-row (span (0 + b) (n - b)) a))
 
 -- one row more
 pub rows-next : (p : Arc → Bool) (hs : List ℕ) (a : ℕ)
-    → keep p (pair-rows hs (run 0 (a + 1))) ≡ keep p (pair-rows hs (run 0 a)) ++ keep p (pair-row hs a)
+    → keep p (pair-rows hs (span 0 (a + 1))) ≡ keep p (pair-rows hs (span 0 a)) ++ keep p (pair-row hs a)
 rows-next p hs a =
-    ap (λ (l : List ℕ). keep p (pair-rows hs l)) (run-more a)
+    ap (λ (l : List ℕ). keep p (pair-rows hs l)) (span-more a)
     ∙ ap (keep p)
-    (rows-append hs (run 0 a) (a ∷ []) ∙ ap (λ (l : List Arc). pair-rows hs (run 0 a) ++ l) (rows-one hs a))
-    ∙ keep-append p (pair-rows hs (run 0 a)) (pair-row hs a)
+    (rows-append hs (span 0 a) (a ∷ []) ∙ ap (λ (l : List Arc). pair-rows hs (span 0 a) ++ l) (rows-one hs a))
+    ∙ keep-append p (pair-rows hs (span 0 a)) (pair-row hs a)
 
 -- the rows of the first zones are no more than those of all
 pub rows-few : (p : Arc → Bool) (hs : List ℕ) (a n : ℕ) → a ≤ n
-    → length (keep p (pair-rows hs (run 0 a))) ≤ length (keep p (pair-rows hs (run 0 n)))
+    → length (keep p (pair-rows hs (span 0 a))) ≤ length (keep p (pair-rows hs (span 0 n)))
 rows-few p hs a n h =
     let sum : n ≡ a + (n - a) = omega arith in
-    front-few (keep p (pair-rows hs (run 0 a))) (keep p (pair-rows hs (run (0 + a) (n - a))))
-    (ap (λ (k : ℕ). keep p (pair-rows hs (run 0 k))) sum
-    ∙ ap (λ (l : List ℕ). keep p (pair-rows hs l)) (run-append 0 a (n - a))
-    ∙ ap (keep p) (rows-append hs (run 0 a) (run (0 + a) (n - a)))
-    ∙ keep-append p (pair-rows hs (run 0 a)) (pair-rows hs (run (0 + a) (n - a))))
+    front-few (keep p (pair-rows hs (span 0 a))) (keep p (pair-rows hs (span (0 + a) (n - a))))
+    (ap (λ (k : ℕ). keep p (pair-rows hs (span 0 k))) sum
+    ∙ ap (λ (l : List ℕ). keep p (pair-rows hs l)) (span-append 0 a (n - a))
+    ∙ ap (keep p) (rows-append hs (span 0 a) (span (0 + a) (n - a)))
+    ∙ keep-append p (pair-rows hs (span 0 a)) (pair-rows hs (span (0 + a) (n - a))))
 
 -- the skeleton is what passes of all rows
 pub skeleton-rows : (N : Network) → skeleton N ≡ keep (in-skeleton N) (pair-rows (N .zones) (N .zones))

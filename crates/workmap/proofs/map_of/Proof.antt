@@ -11,32 +11,17 @@ entry c = c .before .before .before .before .before .before
 asked-work-requires : tie.Need-asked-work-requires
 asked-work-requires c κs = search needs
 
-mul-rows-at : tie.Need-mul-rows-at
-mul-rows-at c = search needs
-
 rows-at-requires : tie.Need-rows-at-requires
 rows-at-requires c κs = search needs
 
-mul-rows-at-2 : tie.Need-mul-rows-at-2
-mul-rows-at-2 c = search needs
-
-add-rows-at : tie.Need-add-rows-at
-add-rows-at c = search needs
-
-add-rows-at-2 : tie.Need-add-rows-at-2
-add-rows-at-2 c = search needs
-
-rows-at-requires-2 : tie.Need-rows-at-requires-2
-rows-at-requires-2 c κs = search needs
+turned-at-requires : tie.Need-turned-at-requires
+turned-at-requires c κs = search needs
 
 search-at-requires : tie.Need-search-at-requires
 search-at-requires c κs = search needs
 
-mul-search-at : tie.Need-mul-search-at
-mul-search-at c = search needs
-
-search-at-requires-2 : tie.Need-search-at-requires-2
-search-at-requires-2 c κs = search needs
+back-at-requires : tie.Need-back-at-requires
+back-at-requires c κs = search needs
 
 order-at-requires : tie.Need-order-at-requires
 order-at-requires c κs = search needs
@@ -66,9 +51,9 @@ returns c =
     map-parts
     (o .before .before .before .before .before .asked-work .ensures)
     (o .before .before .before .before .rows-at .ensures)
-    (o .before .before .before .rows-at2 .ensures)
+    (o .before .before .before .turned-at .ensures)
     (o .before .before .search-at .ensures)
-    (o .before .search-at2 .ensures)
+    (o .before .back-at .ensures)
     (o .order-at .ensures)
     (d .names-at .ensures)
     (c .before .before .before .before .kinds-at .ensures)
@@ -82,15 +67,10 @@ map-of-spec =
     tie.close
     (tie.spec
     asked-work-requires
-    mul-rows-at
     rows-at-requires
-    mul-rows-at-2
-    add-rows-at
-    add-rows-at-2
-    rows-at-requires-2
+    turned-at-requires
     search-at-requires
-    mul-search-at
-    search-at-requires-2
+    back-at-requires
     order-at-requires
     names-at-requires
     kinds-at-requires

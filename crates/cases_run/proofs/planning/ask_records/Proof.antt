@@ -50,14 +50,14 @@ use denote.Exit.{yes}
 use Rattle.rules.specs.declared.PlanAnswer.{PlanAnswer}
 use Rattle.rules.proofs.PlanAnswer as P
 use Rattle.rules.proofs.PlanAnswer.Laws as P′
-use Rattle.records.specs.declared.Link.{Link}
-use Rattle.records.proofs.Link as T
-use Rattle.records.proofs.Link.Laws as T′
+use Rattle.rules.specs.declared.Link.{Link}
+use Rattle.rules.proofs.Link as T
+use Rattle.rules.proofs.Link.Laws as T′
 use Rattle.records.proofs.plan_records.Symbol as pr-def
 use Rattle.records.proofs.plan_records.Symbol.{name as #records·plan-records}
 use Rattle.records.proofs.plan_records.Met as pr-thm
 use Rattle.cases_run.specs.Unset.{unset-links}
-use Rattle.cases_run.proofs.LocalArray.{cell, lends-array, array-back}
+use Rattle.walks.proofs.LocalArray.{cell, lends-array, array-back}
 use Rattle.cases_run.proofs.AskSteps.{Input, Sized, vz, vt, vh, vw, OwnT, OwnH, OwnL, Said, Records, asked-is}
 use Rattle.cases_run.proofs.AskSteps.{Unset, Plan, records-typed, to-unset, asks-unset, hears-unset, to-plan}
 use Rattle.cases_run.proofs.AskSteps.{asks-plan, hears-plan}

@@ -4,14 +4,14 @@ use borrow.Author.Needs.{needs}
 use native.Mathlib.Omega.{arith}
 use Prim.Native.Nat.{_≤_, _<_, _-_}
 use mathlib.Core.Path.{_≡_}
-use Rattle.components.specs.Names.{Named}
+use Rattle.components.specs.Names.{Zones-named}
 use Rattle.components.proofs.names.Laws.{named-none, root-some, place, named-more}
 use Rattle.components.proofs.names.name_zones.Statement.{statement}
 use Rattle.components.proofs.names.name_zones.Tie as tie
 
 -- what every turn of the loop keeps
 abbrev Inv-loop : tie.InvT-loop
-Inv-loop work₀ zones names low roots v₀ work v = (v ≤ zones) × Named work₀ work zones names low roots v
+Inv-loop work₀ zones names low roots v₀ work v = (v ≤ zones) × Zones-named work₀ work zones names low roots v
 
 -- what every turn of the loop makes smaller
 abbrev μ-loop : tie.MeasureT-loop

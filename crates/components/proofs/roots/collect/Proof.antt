@@ -3,68 +3,102 @@
 use borrow.Author.Needs.{needs}
 use native.Mathlib.Omega.{arith}
 use Prim.Native.Nat.{_+_, _-_, _≤_, _<_}
-use mathlib.Core.Path.{_≡_}
-use Rattle.components.specs.Roots.{Collecting}
-use Rattle.components.proofs.roots.Collecting.{laid-rest, collect-begun, collect-ended}
-use Rattle.components.proofs.roots.Collecting.{z-zone, z-own, collect-turn}
+use mathlib.Core.Path.{_≡_, refl, _∙_}
+use lib.ListN.{length}
+use Rattle.workmap.specs.declared.RowsAt.{RowsAt}
+use Rattle.components.specs.Roots.{Collectable, Collecting}
+use Rattle.components.proofs.roots.Collecting.{collect-begun, collect-ended, z-zone, collect-able}
+use Rattle.components.proofs.roots.Collecting.{collect-turn}
 use Rattle.components.proofs.roots.collect.Statement.{statement}
 use Rattle.components.proofs.roots.collect.Tie as tie
 
 -- the places from k on of the order are taken
 abbrev Inv-loop : tie.InvT-loop
-Inv-loop work₀ zones starts rows tstarts trows seen order roots queue k₀ tail₀ work k tail =
-    (k ≤ zones) × Collecting work₀ work zones starts rows order roots queue k tail
+Inv-loop work₀ turned order at k₀ tail₀ work k tail =
+    (k ≤ turned .zones)
+    × ((length work ≡ length work₀)
+    × ((R : RowsAt) → Collectable work₀ R turned order at → Collecting work₀ work R turned order at k tail))
 
 -- the places that are left
 abbrev μ-loop : tie.MeasureT-loop
-μ-loop work₀ zones starts rows tstarts trows seen order roots queue k₀ tail₀ work k tail = k
+μ-loop work₀ turned order at k₀ tail₀ work k tail = k
 
--- The pass as it stands, told at the place that comes next.
-prior : (c : tie.In-loop Inv-loop μ-loop) → let l = c .before in let a = l .before .before .args in
-    Collecting (a .work .now) (l .loop .work) (a .zones) (a .starts) (a .rows) (a .order) (a .roots) (a .queue)
-    (l .loop .k - 1 + 1) (l .loop .tail)
-prior c =
-    let e : c .before .loop .k - 1 + 1 ≡ c .before .loop .k = omega arith in
-    rw e (c .before .loop .inv .1)
+-- Queue and order lie in the memory, and the place that comes next is one of them.
+ranges : (c : tie.In-loop Inv-loop μ-loop) →
+    let a = c .before .before .before .args in
+    let l = c .before .loop in
+    (a .at .queue + a .turned .zones ≤ a .order .order)
+    × ((a .order .order + a .turned .zones ≤ length (l .work)) × (l .k - 1 < a .turned .zones))
+ranges c =
+    let l = c .before .loop in
+    let I = c .before .before .before .pre .1 in
+    (I .order-behind, (omega (arith, I .order-fits, l .inv .1 .0), omega (arith, l .inv .0, c .loop-test .taken)))
+
+-- a zone of the order is read
+abbrev Read : Type 0
+Read = tie.After-wide Inv-loop μ-loop
+
+-- the turn in which it is read
+abbrev turn-of : Read → tie.In-loop Inv-loop μ-loop
+turn-of c = c .before .before
+
+-- the function's entry
+abbrev entry : Read → tie.Start Inv-loop μ-loop
+entry c = turn-of c .before .before .before
+
+-- The place that comes next is in the order.
+inside : (c : Read) → turn-of c .before .loop .k - 1 < entry c .args .turned .zones
+inside c = ranges (turn-of c) .1 .1
+
+-- The pass as it stands, told at the place that comes next, for rows that the turned rows turn round.
+prior : (c : Read) (R : RowsAt) →
+    let a = entry c .args in
+    let l = turn-of c .before .loop in
+    Collectable (a .work .now) R (a .turned) (a .order) (a .at) →
+    Collecting (a .work .now) (l .work) R (a .turned) (a .order) (a .at) (l .k - 1 + 1) (l .tail)
+prior c R I =
+    let l = turn-of c .before .loop in
+    let e : l .k - 1 + 1 ≡ l .k = omega (arith, turn-of c .loop-test .taken) in
+    rw e (l .inv .1 .1 R I)
+
+-- The zone that is read is one.
+zone : (c : Read) → c .wide .result < entry c .args .turned .zones
+zone c = let I = entry c .pre in z-zone (I .1) (inside c) (prior c (I .0) (I .1)) (c .wide .ensures)
 
 -- The invariant holds where the loop begins.
 loop-holds : tie.Need-loop-holds Inv-loop μ-loop
-loop-holds c =
-    let s = c .before in
-    (omega arith, collect-begun (s .pre .0) (s .pre .1))
+loop-holds c = (omega arith, (refl, λ R I. collect-begun I))
 
 -- Sums and casts keep in range, and places are inside the memory.
 sub-k : tie.Need-sub-k Inv-loop μ-loop
 sub-k c = search needs
 
 add-wide : tie.Need-add-wide Inv-loop μ-loop
-add-wide c = search needs
+add-wide c = omega (arith, ranges c)
 
 mul-wide : tie.Need-mul-wide Inv-loop μ-loop
-mul-wide c = search needs
+mul-wide c = omega (arith, ranges c)
 
 slice-read-wide : tie.Need-slice-read-wide Inv-loop μ-loop
-slice-read-wide c = search needs
+slice-read-wide c = omega (arith, ranges (c .before))
 
 -- What `wide` asks for is so.
 wide-requires : tie.Need-wide-requires Inv-loop μ-loop
 wide-requires c κs = search needs
 
--- What `gather` asks for is so.
-gather-requires : tie.Need-gather-requires Inv-loop μ-loop
-gather-requires c κs =
+-- Sums and casts keep in range.
+add-spread : tie.Need-add-spread Inv-loop μ-loop
+add-spread c = omega (arith, zone (c .before), entry (c .before) .pre .1 .laid .small)
+
+cast-spread : tie.Need-cast-spread Inv-loop μ-loop
+cast-spread c = omega (arith, zone (c .before), entry (c .before) .pre .1 .laid .small)
+
+-- What `spread` asks for is so.
+spread-requires : tie.Need-spread-requires Inv-loop μ-loop
+spread-requires c κs =
     let u = c .before in
-    let i = u .before .before in
-    let l = i .before in
-    let s = l .before .before in
-    let inside : l .loop .k - 1 < s .args .zones = omega (arith, l .loop .inv .0, i .loop-test .taken) in (
-      laid-rest (s .pre .0) (l .loop .inv .1 .rest),
-      record {
-        zone = z-zone (s .pre .0) (s .pre .1) inside (prior i) (u .wide .ensures);
-        room = l .loop .inv .1 .room;
-        own = z-own (s .pre .0) (s .pre .1) inside (prior i) (u .wide .ensures);
-      },
-    )
+    let I = entry u .pre in
+    collect-able (I .1) (inside u) (prior u (I .0) (I .1)) (u .wide .ensures)
 
 -- Every turn makes the measure smaller.
 loop-less : tie.Need-loop-less Inv-loop μ-loop
@@ -75,25 +109,25 @@ loop-again : tie.Need-loop-again Inv-loop μ-loop
 loop-again c =
     let d = c .before .before in
     let u = d .before .before in
-    let i = u .before .before in
-    let l = i .before in
-    let s = l .before .before in
-    let inside : l .loop .k - 1 < s .args .zones = omega (arith, l .loop .inv .0, i .loop-test .taken) in (
-      omega (arith, l .loop .inv .0),
-      collect-turn (s .pre .0) (s .pre .1) inside (prior i) (u .wide .ensures) (d .gather .ensures),
+    let l = turn-of u .before .loop in
+    let D = d .spread .ensures in (
+      omega (arith, l .inv .0),
+      (
+        D .course .kept .long ∙ l .inv .1 .0,
+        λ R I. collect-turn I (inside u) (prior u R I) (u .wide .ensures) D,
+      ),
     )
 
 -- The memory keeps its length.
 same-length : tie.Need-same-length Inv-loop μ-loop
-same-length c = search needs
+same-length c = c .before .loop .inv .1 .0
 
 -- What is answered is as the contract says.
 returns : tie.Need-returns Inv-loop μ-loop
 returns c =
-    let l = c .before in
-    let s = l .before .before in
-    let e : l .loop .k ≡ 0 = omega (arith, c .loop-test .left) in
-    collect-ended (s .pre .0) (s .pre .1) (rw e at (l .loop .inv .1))
+    let l = c .before .loop in
+    let e : l .k ≡ 0 = omega (arith, c .loop-test .left) in
+    λ R I. collect-ended I (rw e at (l .inv .1 .1 R I))
 
 -- The function meets its contract.
 pub collect-spec : {M : Type 1} → statement M
@@ -108,7 +142,9 @@ collect-spec =
     mul-wide
     slice-read-wide
     wide-requires
-    gather-requires
+    add-spread
+    cast-spread
+    spread-requires
     loop-less
     loop-again
     same-length

@@ -5,14 +5,14 @@ use native.Mathlib.Omega.{arith}
 use Prim.Native.Nat.{_≤_, _<_, _-_}
 use mathlib.Core.Path.{_≡_}
 use mathlib.Core.Logic.{inl, inr}
-use Rattle.components.specs.Tops.{Listed}
+use Rattle.components.specs.Tops.{Tops-listed}
 use Rattle.components.proofs.tops.Laws.{listed-none, places, listed-more}
 use Rattle.components.proofs.tops.list_names.Statement.{statement}
 use Rattle.components.proofs.tops.list_names.Tie as tie
 
 -- what every turn of the loop keeps
 abbrev Inv-loop : tie.InvT-loop
-Inv-loop work₀ zones tops names queue m₀ i₀ work m i = (i ≤ zones) × Listed work₀ work zones tops names queue i m
+Inv-loop work₀ zones tops names queue m₀ i₀ work m i = (i ≤ zones) × Tops-listed work₀ work zones tops names queue i m
 
 -- what every turn of the loop makes smaller
 abbrev μ-loop : tie.MeasureT-loop

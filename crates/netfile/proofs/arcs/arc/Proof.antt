@@ -2,7 +2,7 @@
 use mathlib.Core.Path.{_∙_, sym, ap}
 use borrow.Author.Tests.{eq-eqb, ne-eqb}
 use borrow.Author.Needs.{needs}
-use Rattle.numbers.specs.Readings.{number-reading}
+use Rattle.filenumbers.specs.Readings.{number-reading}
 use Rattle.rules.specs.File.{arc-at}
 use Rattle.netfile.proofs.arcs.arc.Statement.{statement}
 use Rattle.netfile.proofs.arcs.arc.Tie as tie

@@ -2,7 +2,7 @@
 use mathlib.Core.Path.{_∙_, sym, ap}
 use borrow.Author.Tests.{le-leb, lt-leb}
 use borrow.Author.Needs.{needs}
-use Rattle.numbers.specs.Readings.{number-reading}
+use Rattle.filenumbers.specs.Readings.{number-reading}
 use Rattle.rules.specs.File.{zone-at}
 use Rattle.netfile.proofs.arcs.zone.Statement.{statement}
 use Rattle.netfile.proofs.arcs.zone.Tie as tie

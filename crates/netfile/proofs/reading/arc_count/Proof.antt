@@ -2,7 +2,7 @@
 use mathlib.Core.Path.{_∙_, sym, ap}
 use borrow.Author.Tests.{lt-ltb, le-ltb}
 use borrow.Author.Needs.{needs}
-use Rattle.numbers.specs.Readings.{number-reading}
+use Rattle.filenumbers.specs.Readings.{number-reading}
 use Rattle.netfile.specs.Readings.{count-at}
 use Rattle.netfile.proofs.reading.arc_count.Statement.{statement}
 use Rattle.netfile.proofs.reading.arc_count.Tie as tie

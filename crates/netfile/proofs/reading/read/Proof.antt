@@ -5,7 +5,7 @@ use lib.ListN.{length}
 use borrow.Author.Needs.{needs}
 use Rattle.netfile.proofs.Wholes.{put-bad, promise}
 use Rattle.netfile.proofs.Wholes.{file-bad, file-got, counted-bad, counted-got, zones-few, count-fits}
-use Rattle.numbers.specs.Readings.{number-reading}
+use Rattle.filenumbers.specs.Readings.{number-reading}
 use Rattle.netfile.proofs.reading.read.Statement.{statement}
 use Rattle.netfile.proofs.reading.read.Tie as tie
 
@@ -76,9 +76,9 @@ returns-3 c =
     let s = a .file .now in
     let tails = length (a .tails .now) in
     let heads = length (a .heads .now) in
-    promise _ _ _ _ _ _
-    (rw (file-got s tails heads _ _ n ∙ counted-got s tails heads _ _ _ _ e)
-    (c .before .before .before .before .body .ensures))
+    let b = c .before .before .before .before in
+    promise _ _ _ (b .body .result) _ _
+    (rw (file-got s tails heads _ _ n ∙ counted-got s tails heads _ _ _ _ e) (b .body .ensures))
 
 pub read-spec : {M : Type 1} → statement M
 read-spec =

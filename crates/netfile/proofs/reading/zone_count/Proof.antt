@@ -3,7 +3,7 @@
 use mathlib.Core.Path.{_∙_, sym, ap}
 use borrow.Author.Tests.{lt-ltb, le-ltb, eq-eqb, ne-eqb}
 use borrow.Author.Needs.{needs}
-use Rattle.numbers.specs.Readings.{number-reading}
+use Rattle.filenumbers.specs.Readings.{number-reading}
 use Rattle.netfile.specs.Readings.{zones-at}
 use Rattle.netfile.proofs.reading.zone_count.Statement.{statement}
 use Rattle.netfile.proofs.reading.zone_count.Tie as tie

@@ -1,32 +1,83 @@
 -- `write` meets its promise: the tests of the network come first, then the room for the file, and then the file is put
 -- in. Assumes nothing.
+use Prim.Native.Nat.{_+_}
 use native.Mathlib.Omega.{arith}
-use mathlib.Core.Path.{sym, ap, _∙_}
+use mathlib.Core.Path.{_≡_, ap, _∙_}
+use mathlib.Core.Option.{none}
 use lib.ListN.{length}
 use borrow.Author.Needs.{needs}
 use Rattle.theory.proofs.Ground.ArcLists.{arcs-length}
 use Rattle.theory.proofs.Files.NumberLaws.{length-bounds}
-use Rattle.netfile.proofs.Writes.{write-bad, write-done}
-use Rattle.netfile.proofs.Writes.{arcs-short, written-length}
-use Rattle.netfile.proofs.Writes.{trouble-stays, trouble-room, trouble-none}
-use Rattle.tests.proofs.Fine.{fine}
-use Rattle.tests.specs.Tested.{tested-trouble}
-use Rattle.rules.specs.Calls.{arcs-of}
+use Rattle.netfile.proofs.Writes.{arcs-short, written-length, write-found, write-fits, write-bad, write-done}
+use Rattle.intake.specs.Tested.{Fine, tested-trouble}
+use Rattle.intake.proofs.Chains.{found-stays, found-goes-on, found-says}
+use Rattle.intake.proofs.Fine.{fine, fine-few}
+use Rattle.rules.specs.Calls.{arcs-of, written, write-trouble}
 use Rattle.netfile.proofs.writing.write.Statement.{statement}
 use Rattle.netfile.proofs.writing.write.Tie as tie
 
-network-trouble-requires : tie.Need-network-trouble-requires
-network-trouble-requires c κs = search needs
+-- the network passed its tests
+abbrev Here : Type 0
+Here = tie.After-enum-told
 
-enum-known-tested : tie.Need-enum-known-tested
-enum-known-tested c = search needs
+-- the function's entry
+abbrev entry : Here → tie.Start
+entry c = c .before .before .before .before .before .before
+
+-- so it is fine
+fine-here : (c : Here) → let a = entry c .args in Fine (a .zones) (a .tails .now) (a .heads .now)
+fine-here c =
+    let a = entry c .args in
+    fine (a .zones) (a .tails .now) (a .heads .now)
+    (found-says (c .before .before .network .ensures) (c .enum-told .given .1))
+
+-- the file's length was found
+abbrev Measured : Type 0
+Measured = tie.After-arcs-length
+
+-- the tests of the network, from there
+abbrev here : Measured → Here
+here c = c .before .before .before
+
+-- the sum is the file's length
+length-is : (c : Measured) →
+    let a = entry (here c) .args in
+    c .before .before .number-length .result + c .before .number-length2 .result + c .arcs-length .result
+    ≡ length (written (a .zones) (a .tails .now) (a .heads .now))
+length-is c =
+    let a = entry (here c) .args in
+    let w = written-length (a .zones) (a .tails .now) (a .heads .now) (fine-here (here c) .paired) in
+    omega arith
+
+-- what was found is WRITE's trouble
+found : (c : tie.After-room) →
+    let a = entry (here (c .before)) .args in
+    write-trouble (a .zones) (a .tails .now) (a .heads .now) (a .file .now) ≡ tested-trouble (c .room .result)
+found c =
+    let h = here (c .before) in
+    let a = entry h .args in
+    write-found (a .zones) (a .tails .now) (a .heads .now) (a .file .now) (h .before .before .network .ensures)
+    (found-goes-on (h .enum-told .given .1) (rw (length-is (c .before)) at (c .room .ensures)))
+
+-- there is none
+none-here : (c : tie.After-enum-told2) →
+    let a = entry (here (c .before .before .before)) .args in
+    write-trouble (a .zones) (a .tails .now) (a .heads .now) (a .file .now) ≡ none
+none-here c = found (c .before .before) ∙ ap tested-trouble (c .enum-told2 .given .1)
+
+network-requires : tie.Need-network-requires
+network-requires c κs = search needs
+
+enum-known-found : tie.Need-enum-known-found
+enum-known-found c = search needs
 
 returns : tie.Need-returns
 returns c =
     let l = c .before .before .before in
     let a = l .before .before .before .before .args in
-    let e = sym (l .network-trouble .ensures) ∙ ap tested-trouble (c .before .tested .given .1) in
-    write-bad _ _ _ _ _ (trouble-stays (a .zones) (a .tails .now) (a .heads .now) (a .file .now) _ e)
+    write-bad _ _ _ _ _
+    (write-found (a .zones) (a .tails .now) (a .heads .now) (a .file .now) (l .network .ensures)
+    (found-stays _ (c .before .found .given .1)))
 
 enum-told : tie.Need-enum-told
 enum-told c = search needs
@@ -39,23 +90,16 @@ number-length-requires-2 c κs = search needs
 
 add-counts : tie.Need-add-counts
 add-counts c =
-    let a = c .before .before .before .before .before .before .before .before .args in
+    let a = entry (c .before .before) .args in
     omega (arith, length-bounds (a .zones), length-bounds (length (a .tails .now)))
 
 arcs-length-requires : tie.Need-arcs-length-requires
-arcs-length-requires c κs =
-    let l = c .before .before .before .before in
-    let a = l .before .before .before .before .args in
-    let e = sym (l .network-trouble .ensures) ∙ ap tested-trouble (c .before .before .enum-told .given .1) in
-    let f = fine (a .zones) (a .tails .now) (a .heads .now) e in
-    (f .paired, f .few)
+arcs-length-requires c κs = let f = fine-here (c .before .before) in (f .paired, fine-few f)
 
 add-length : tie.Need-add-length
 add-length c =
-    let l = c .before .before .before .before .before in
-    let a = l .before .before .before .before .args in
-    let e = sym (l .network-trouble .ensures) ∙ ap tested-trouble (c .before .before .before .enum-told .given .1) in
-    let f = fine (a .zones) (a .tails .now) (a .heads .now) e in
+    let a = entry (here c) .args in
+    let f = fine-here (here c) in
     omega (
       arith,
       length-bounds (a .zones),
@@ -64,54 +108,48 @@ add-length c =
       arcs-length (a .tails .now) (a .heads .now) (f .paired),
     )
 
+room-requires : tie.Need-room-requires
+room-requires c κs = search needs
+
+enum-known-roomy : tie.Need-enum-known-roomy
+enum-known-roomy c = search needs
+
 returns-2 : tie.Need-returns-2
 returns-2 c =
-    let k = c .before in
-    let l = k .before .before .before .before .before in
-    let a = l .before .before .before .before .args in
-    let e = sym (l .network-trouble .ensures) ∙ ap tested-trouble (k .before .before .before .enum-told .given .1) in
-    let f = fine (a .zones) (a .tails .now) (a .heads .now) e in
-    let w = written-length (a .zones) (a .tails .now) (a .heads .now) (f .paired) in
-    write-bad _ _ _ _ _ (trouble-room (a .zones) (a .tails .now) (a .heads .now) (a .file .now) e (omega arith))
+    let d = c .before .before .before in
+    write-bad _ _ _ _ _ (found d ∙ ap tested-trouble (c .before .roomy .given .1))
+
+enum-told-2 : tie.Need-enum-told-2
+enum-told-2 c = search needs
 
 put-file-requires : tie.Need-put-file-requires
 put-file-requires c κs =
-    let k = c .before .before in
-    let l = k .before .before .before .before .before in
-    let a = l .before .before .before .before .args in
-    let e = sym (l .network-trouble .ensures) ∙ ap tested-trouble (k .before .before .before .enum-told .given .1) in
-    let f = fine (a .zones) (a .tails .now) (a .heads .now) e in
-    let w = written-length (a .zones) (a .tails .now) (a .heads .now) (f .paired) in
-    ((f .high, (f .paired, f .few)), omega arith)
+    let d = c .before in
+    let h = here (d .before .before .before) in
+    let a = entry h .args in
+    let f = fine-here h in (
+      (f .accepted .zones-most, (f .paired, fine-few f)),
+      write-fits (a .zones) (a .tails .now) (a .heads .now) (a .file .now) (none-here d),
+    )
 
 same-length : tie.Need-same-length
 same-length c = search needs
 
 returns-3 : tie.Need-returns-3
 returns-3 c =
-    let k = c .before .before .before .before .before in
-    let l = k .before .before .before .before .before in
-    let a = l .before .before .before .before .args in
-    let e = sym (l .network-trouble .ensures) ∙ ap tested-trouble (k .before .before .before .enum-told .given .1) in
-    let f = fine (a .zones) (a .tails .now) (a .heads .now) e in
-    let w = written-length (a .zones) (a .tails .now) (a .heads .now) (f .paired) in
-    write-done
-    (a .zones)
-    (a .tails .now)
-    (a .heads .now)
-    (a .file .now)
-    _
-    _
-    (trouble-none (a .zones) (a .tails .now) (a .heads .now) (a .file .now) e (omega arith))
-    (omega arith)
-    (c .before .before .put-file .ensures)
+    let p = c .before .before in
+    let d = p .before .before in
+    let m = d .before .before .before in
+    let a = entry (here m) .args in
+    write-done (a .zones) (a .tails .now) (a .heads .now) (a .file .now) _ _ (none-here d) (length-is m)
+    (p .put-file .ensures)
 
 pub write-spec : {M : Type 1} → statement M
 write-spec =
     tie.close
     (tie.spec
-    network-trouble-requires
-    enum-known-tested
+    network-requires
+    enum-known-found
     returns
     enum-told
     number-length-requires
@@ -119,7 +157,10 @@ write-spec =
     add-counts
     arcs-length-requires
     add-length
+    room-requires
+    enum-known-roomy
     returns-2
+    enum-told-2
     put-file-requires
     same-length
     returns-3)

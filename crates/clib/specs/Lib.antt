@@ -1,2 +1,0 @@
--- What the C interface promises.
-pub mod Promises

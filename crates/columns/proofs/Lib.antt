@@ -1,0 +1,2 @@
+-- Laws of filling a list of records from three columns.
+pub mod FillLaws

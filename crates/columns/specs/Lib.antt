@@ -1,0 +1,2 @@
+-- Records of links that stand in lent work memory.
+pub mod Columns

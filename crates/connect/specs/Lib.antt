@@ -1,0 +1,2 @@
+-- What connecting sources and sinks asks and leaves.
+pub mod Connect

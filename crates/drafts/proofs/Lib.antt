@@ -1,0 +1,3 @@
+-- Laws of a draft.
+pub mod Answering
+pub mod Rooms

@@ -1,0 +1,2 @@
+-- What the numbers of a plan are.
+pub mod Figures

@@ -1,3 +1,0 @@
--- Laws of listing names.
-pub mod Turns
-pub mod Whole

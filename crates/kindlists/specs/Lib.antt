@@ -1,2 +1,0 @@
--- What the contracts of the lists of names say.
-pub mod Lists

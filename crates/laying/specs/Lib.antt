@@ -1,0 +1,2 @@
+-- What laying out a plan leaves.
+pub mod Layout

@@ -1,0 +1,2 @@
+-- What the contracts of the lines of links say.
+pub mod Lines

@@ -1,3 +1,0 @@
--- What PLAN over records promises.
-pub mod Filling
-pub mod Promise

@@ -1,0 +1,3 @@
+-- Laws of the sides of the plan rule.
+pub mod Turning
+mod Runs

@@ -1,0 +1,3 @@
+-- What a side of the plan rule is.
+pub mod Standing
+pub mod Sides

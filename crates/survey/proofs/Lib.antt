@@ -1,0 +1,2 @@
+-- Laws of the survey of a network.
+mod Surveying

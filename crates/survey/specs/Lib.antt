@@ -1,0 +1,2 @@
+-- What the survey of a network leaves.
+pub mod Survey

@@ -1,0 +1,22 @@
+-- `text::refuse` meets its contract: the number of the trouble's kind and its place are put. Assumes nothing.
+use borrow.Author.Needs.{needs}
+use Rattle.text.proofs.TextLaws.{refusal-put}
+use Rattle.text.proofs.refuse.Statement.{statement}
+use Rattle.text.proofs.refuse.Tie as tie
+
+trouble-number-requires : tie.Need-trouble-number-requires
+trouble-number-requires c κs = search needs
+
+put-refusal-requires : tie.Need-put-refusal-requires
+put-refusal-requires c κs = search needs
+
+same-length : tie.Need-same-length
+same-length c = search needs
+
+returns : tie.Need-returns
+returns c =
+    let d = c .before .before in
+    rw refusal-put (rw (d .before .trouble-number .ensures) at (d .put-refusal .ensures))
+
+pub refuse-spec : {M : Type 1} → statement M
+refuse-spec = tie.close (tie.spec trouble-number-requires put-refusal-requires same-length returns)

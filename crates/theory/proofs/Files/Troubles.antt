@@ -1,0 +1,90 @@
+-- The tests of a call, taken apart: the same laws for every call, whatever its tests are.
+--   or-else t u     the trouble t, or u where t is none
+--   first-trouble-append   one list of tests after another: the trouble of the first, or else that of the second
+--   first-trouble-after, first-trouble-stays   the two cases of it
+--   Passed ts       each test of the list passes
+--   none-passed, passed-none     there is no trouble exactly where each test passes
+--   passed-append, append-passed   one list after another: each test of both passes
+--   passes, both-pass            the same said of the first test, and of two lists, by their troubles
+-- Each goes by cases on whether the first test fails. Assumes nothing.
+use mathlib.Core.Path.{_≡_, refl, sym, ap, _∙_}
+use mathlib.Core.List.{List, [], _∷_, _++_}
+use mathlib.Core.Option.{Option, none, some}
+use mathlib.Core.Bool.{Bool, true, false}
+use Rattle.rules.specs.declared.Trouble.{Trouble}
+use Rattle.rules.specs.Calls.{Test, first-trouble}
+
+-- the first of two troubles
+abbrev pub or-else : Option Trouble → Option Trouble → Option Trouble
+or-else none u = u
+or-else (some t) u = some t
+
+-- a test before tests with a trouble v, or else w
+before : (b : Bool) (r : Trouble) (u v w : Option Trouble) → u ≡ or-else v w
+    → elim b [ true ↦ some r | false ↦ u ] ≡ or-else (elim b [ true ↦ some r | false ↦ v ]) w
+before true r u v w e = refl
+before false r u v w e = e
+
+-- the first trouble of two lists of tests: that of the first list, or else that of the second
+pub first-trouble-append : (xs ys : List Test)
+    → first-trouble (xs ++ ys) ≡ or-else (first-trouble xs) (first-trouble ys)
+first-trouble-append [] ys = refl
+first-trouble-append (x ∷ xs) ys =
+    before (x .fails) (x .says) (first-trouble (xs ++ ys)) (first-trouble xs) (first-trouble ys)
+    (first-trouble-append xs ys)
+
+-- where the first list has no trouble, the second decides
+pub first-trouble-after : (xs ys : List Test) → first-trouble xs ≡ none → first-trouble (xs ++ ys) ≡ first-trouble ys
+first-trouble-after xs ys e =
+    first-trouble-append xs ys ∙ ap (λ (t : Option Trouble). or-else t (first-trouble ys)) e
+
+-- a trouble of the first list stays
+pub first-trouble-stays : {r : Trouble} (xs ys : List Test) → first-trouble xs ≡ some r
+    → first-trouble (xs ++ ys) ≡ some r
+first-trouble-stays xs ys e =
+    first-trouble-append xs ys ∙ ap (λ (t : Option Trouble). or-else t (first-trouble ys)) e
+
+-- where there is no trouble, the first test does not fail, and the rest has none
+pub passes : (b : Bool) (r : Trouble) (u : Option Trouble)
+    → _≡_ {A = Option Trouble} (elim b [ true ↦ some r | false ↦ u ]) none → (b ≡ false) × (u ≡ none)
+passes true r u e = (cc, cc)
+passes false r u e = (refl, e)
+
+-- a test that passes leaves what follows it
+pub pass : (b : Bool) (r : Trouble) {u : Option Trouble} → b ≡ false → u ≡ none
+    → _≡_ {A = Option Trouble} (elim b [ true ↦ some r | false ↦ u ]) none
+pass b r e f = rw (e, f)
+
+-- where two lists of tests have no trouble, neither has
+pub both-pass : (xs ys : List Test) → first-trouble (xs ++ ys) ≡ none
+    → (first-trouble xs ≡ none) × (first-trouble ys ≡ none)
+both-pass xs ys e = go (first-trouble xs) (sym (first-trouble-append xs ys) ∙ e)
+  where
+    go : (t : Option Trouble) → or-else t (first-trouble ys) ≡ none → (t ≡ none) × (first-trouble ys ≡ none)
+    go none e = (refl, e)
+    go (some r) e = (cc, cc)
+
+-- each test of the list passes
+abbrev pub Passed : List Test → Type 0
+Passed [] = Unit {0}
+Passed (x ∷ xs) = (x .fails ≡ false) × Passed xs
+
+-- without a trouble each test passes
+pub none-passed : (xs : List Test) → first-trouble xs ≡ none → Passed xs
+none-passed [] e = tt
+none-passed (x ∷ xs) e = let p = passes (x .fails) (x .says) (first-trouble xs) e in (p .0, none-passed xs (p .1))
+
+-- where each test passes there is no trouble
+pub passed-none : (xs : List Test) → Passed xs → first-trouble xs ≡ none
+passed-none [] p = refl
+passed-none (x ∷ xs) p = pass (x .fails) (x .says) (p .0) (passed-none xs (p .1))
+
+-- each test of one list after another passes: so does each of both
+pub passed-append : (xs ys : List Test) → Passed (xs ++ ys) → Passed xs × Passed ys
+passed-append [] ys p = (tt, p)
+passed-append (x ∷ xs) ys p = let q = passed-append xs ys (p .1) in ((p .0, q .0), q .1)
+
+-- and back
+pub append-passed : (xs ys : List Test) → Passed xs → Passed ys → Passed (xs ++ ys)
+append-passed [] ys p q = q
+append-passed (x ∷ xs) ys p q = (p .0, append-passed xs ys (p .1) q)

@@ -1,0 +1,5 @@
+-- Steps of a walk, by hand, through a function that holds a reference to structs.
+pub mod Lending
+pub mod LocalArray
+pub mod CountedLoop
+pub mod Calling
