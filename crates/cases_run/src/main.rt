@@ -66,7 +66,7 @@ fn run_row(i: usize) -> Tally
             differ: d,
         };
     }
-    let d = lines::line(i, b" file", head, wanted, asking::read_file(head, given));
+    let d = lines::line(i, b" file", head, wanted, filed::read_file(head, given));
     Tally {
         answers: 1,
         differ: d,

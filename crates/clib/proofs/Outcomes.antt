@@ -24,24 +24,24 @@ pub read-once : {file ts hs : List ℕ} {t u h i e f : List ℕ} → C-promise (
 read-once a b = (
   both (a .kept .tails) (b .kept .tails),
   both (a .kept .heads) (b .kept .heads),
-  eights a b (a .kept .says) (b .kept .says),
+  eights a b (a .kept .told-is) (b .kept .told-is),
 )
 
 -- linkplan_write: bytes, answer
 pub write-once : {n : ℕ} {ts hs file : List ℕ} {s t e f : List ℕ} → C-promise (Write-promise n ts hs file s) e
     → C-promise (Write-promise n ts hs file t) f → (s ≡ t) × (e ≡ f)
-write-once a b = (both (a .kept .bytes) (b .kept .bytes), eights a b (a .kept .says) (b .kept .says))
+write-once a b = (both (a .kept .bytes) (b .kept .bytes), eights a b (a .kept .told-is) (b .kept .told-is))
 
 -- linkplan_strong: work memory, answer
 pub strong-once : {n : ℕ} {ts hs w : List ℕ} {v x e f : List ℕ} → C-promise (Strong-promise n ts hs w v) e
     → C-promise (Strong-promise n ts hs w x) f → (v ≡ x) × (e ≡ f)
-strong-once a b = (both (a .kept .work) (b .kept .work), eights a b (a .kept .says) (b .kept .says))
+strong-once a b = (both (a .kept .work) (b .kept .work), eights a b (a .kept .told-is) (b .kept .told-is))
 
 -- linkplan_reach: work memory, answer
 pub reach-once : {n : ℕ} {ts hs : List ℕ} {from to : ℕ} {w : List ℕ} {v x e f : List ℕ}
     → C-promise (Reach-promise n ts hs from to w v) e → C-promise (Reach-promise n ts hs from to w x) f
     → (v ≡ x) × (e ≡ f)
-reach-once a b = (both (a .kept .work) (b .kept .work), eights a b (a .kept .says) (b .kept .says))
+reach-once a b = (both (a .kept .work) (b .kept .work), eights a b (a .kept .told-is) (b .kept .told-is))
 
 -- linkplan_skeleton: tails, heads, work memory, answer
 pub skeleton-once : {n : ℕ} {ts hs ots ohs w : List ℕ} {t u h i v x e f : List ℕ}
@@ -51,7 +51,7 @@ skeleton-once a b = (
   both (a .kept .tails) (b .kept .tails),
   both (a .kept .heads) (b .kept .heads),
   both (a .kept .work) (b .kept .work),
-  eights a b (a .kept .says) (b .kept .says),
+  eights a b (a .kept .told-is) (b .kept .told-is),
 )
 
 -- linkplan_plan: from, to, why, work memory, answer
@@ -64,5 +64,5 @@ plan-once a b = (
   both (a .kept .to-left) (b .kept .to-left),
   both (a .kept .why-left) (b .kept .why-left),
   both (a .kept .work-left) (b .kept .work-left),
-  eights a b (a .kept .says) (b .kept .says),
+  eights a b (a .kept .told-is) (b .kept .told-is),
 )

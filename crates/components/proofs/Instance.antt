@@ -7,7 +7,7 @@ use native.Mathlib.Omega.{arith}
 use lib.ListN.{length, getD, take, drop, replicate, getD-replicate, List·getD-append}
 use Rattle.rules.specs.Network.{Arc}
 use Rattle.rules.specs.Calls.{arcs-of}
-use Rattle.intake.specs.Tested.{Fine}
+use Rattle.theory.proofs.Files.Accepting.{Fine}
 use Rattle.workmap.specs.Map.{row-places, map-of}
 use Rattle.arranged.specs.Arranged.{heads-of, tails-below, Arranged-at}
 use Rattle.arranged.proofs.Zeros.{same?}

@@ -1,5 +1,4 @@
--- Laws of the components: over plain functions, in the memory, and tied to the rules.
-pub mod Plain
+-- Laws of the components: the passes one after the other, tied to the rules.
 pub mod Lowest
 pub mod Passes
 pub mod Lending

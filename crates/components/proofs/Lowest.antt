@@ -3,7 +3,7 @@
 --   Lowest E v x     x is the lowest zone such that each of x and v leads to the other
 --   lowest-name      over arranged rows, x is then v's name
 --   listed-count     a list without repeats whose elements are exactly m numbers, all different, has m elements
--- Runs of entries are the rules' reach, which `rows` shows; the name is the lowest of its component, which `theory`
+-- Runs of entries are the rules' reach, which `arranged` shows; the name is the lowest of its component, which `theory`
 -- shows. Assumes nothing.
 use mathlib.Core.Path.{_≡_, refl, sym}
 use mathlib.Core.Logic.{inl, inr}
@@ -23,7 +23,7 @@ use Rattle.theory.proofs.Ground.Lists.{map-in}
 use Rattle.theory.proofs.Ground.Counting.{Distinct, answers-count, ascending-distinct, distinct-map}
 use Rattle.theory.proofs.Ground.Ascending.{span-in, in-span, span-ascending, span-length, network-proper}
 use Rattle.theory.proofs.Reaching.Components.{Together, together-sym, name-together, name-lowest}
-use Rattle.components.specs.Pass.{Mutual}
+use Rattle.roots.specs.Pass.{Mutual}
 
 -- x is the lowest zone such that each of x and v leads to the other
 pub record Lowest (E : ℕ → ℕ → Type 0) (v x : ℕ) : Type 0 where

@@ -14,7 +14,7 @@ use Rattle.rules.specs.Network.{network-of, Reach}
 use Rattle.rules.specs.Network.Reach.{same}
 use Rattle.rules.specs.Components.{name, names}
 use Rattle.rules.specs.Calls.{arcs-of}
-use Rattle.intake.proofs.Fine.{fine-few}
+use Rattle.theory.proofs.Files.Accepting.{fine-few}
 use Rattle.workmap.specs.declared.SearchAt.{SearchAt}
 use Rattle.workmap.specs.Map.{search-places, rows-at, turned-at, order-at, names-at, map-of}
 use Rattle.arranged.specs.Rows.{Entry, Run, rows-of}
@@ -24,18 +24,18 @@ use Rattle.arranged.proofs.ArrangedLaws.{arranged-sound, arranged-fits, arrange
 use Rattle.arranged.proofs.ArrangedLaws.{arranged-kept}
 use Rattle.arranged.proofs.ReadyLaws.{arcs-within, turned-within, many, turned-many}
 use Rattle.memory.specs.Regions.{cell}
-use Rattle.finishing.specs.Memory.{Ready, Order-kept, Finished}
+use Rattle.descent.specs.Memory.{Ready, Order-kept, Finished}
 use Rattle.memory.proofs.Regions.{at-kept, at-below}
 use Rattle.memory.proofs.Places.{take-shorter, drop-deeper}
 use Rattle.theory.proofs.Reaching.Components.{name-is-name, names-zone, names-distinct}
 use Rattle.theory.proofs.Ground.Ascending.{span-in}
 use Rattle.search.specs.Marking.{Laid, Queued}
 use Rattle.search.proofs.Laying.{arranged-laid}
-use Rattle.components.specs.Roots.{Collectable, Collected}
-use Rattle.components.specs.Names.{Zones-nameable, Zones-named}
-use Rattle.components.specs.Tops.{Tops-listable, Tops-listed}
+use Rattle.roots.specs.Roots.{Collectable, Collected}
+use Rattle.naming.specs.Names.{Zones-nameable, Zones-named}
+use Rattle.naming.specs.Tops.{Tops-listable, Tops-listed}
 use Rattle.components.specs.Components.{Lent, Components}
-use Rattle.components.proofs.Plain.Naming.{first-one}
+use Rattle.naming.proofs.Noting.{first-one}
 use Rattle.components.proofs.Lowest.{Lowest, arcs-proper, zone-in, lowest-name, listed-count}
 
 -- where the second pass has its marks, which are the roots, and its queue

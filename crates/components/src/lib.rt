@@ -1,11 +1,7 @@
 // The components of a network in linear time, in lent work memory: every zone's name, and the names of all components
 // in topological order. The crate `finishing` has the first pass, which finds a finishing order along the arcs; `roots`
-// the second, which goes against the arcs from the last zone that ended on; `names` finds each component's lowest
-// zone, and `tops` lists these zones.
-mod names;
-mod roots;
-mod tops;
-
+// the second, which goes against the arcs from the last zone that ended on; `naming` finds each component's lowest
+// zone, and lists these zones.
 ghost use mathlib.Core.List.{List};
 ghost use Prim.Native.Nat.{ℕ};
 ghost use Rattle.rules.specs.Network.{network-of};
@@ -28,6 +24,6 @@ pub fn name_all(work: &mut [u16], m: Map) -> usize
     };
     finishing::finish(work, m.rows, m.order);
     roots::collect(work, m.turned, m.order, at);
-    names::name_zones(work, m.zones, to.names, to.low, to.roots);
-    tops::list_names(work, m.zones, to.tops, to.names, to.queue)
+    naming::name_zones(work, m.zones, to.names, to.low, to.roots);
+    naming::list_names(work, m.zones, to.tops, to.names, to.queue)
 }

@@ -26,7 +26,7 @@ use Rattle.theory.proofs.Reaching.KindLaws.{source-is, sink-is}
 use Rattle.theory.proofs.Planning.PlanStrong.{plan-of-upright}
 use Rattle.theory.proofs.Planning.PlanCount.{sources-split, sinks-split, plan-length}
 use Rattle.workmap.specs.declared.Side.{Side}
-use Rattle.pairing.specs.Turn.{All-below}
+use Rattle.turns.specs.Turn.{All-below}
 use Rattle.pairing.specs.Pairs.{Pairable, Paired, Ordering-stands}
 use Rattle.links.specs.declared.Counts.{Counts}
 use Rattle.links.specs.Linking.{links-in, Held, Lists-apart, Linkable, Links-put}

@@ -20,8 +20,9 @@ use Rattle.arranged.specs.Marks.{Marked}
 use Rattle.memory.proofs.Regions.{at-below, at-kept}
 use Rattle.search.specs.Marking.{Clear}
 use Rattle.memory.proofs.Places.{drop-deeper}
-use Rattle.crossings.specs.Named.{name-at, top-at, Named, Crossed, chosen-at, direct-at, tops-at}
-use Rattle.crossings.specs.Direct.{Led, Directable, Added}
+use Rattle.outward.specs.Standing.{name-at, top-at, chosen-at, direct-at, tops-at}
+use Rattle.crossings.specs.Named.{Named, Crossed}
+use Rattle.outward.specs.Direct.{Led, Directable, Added}
 use Rattle.crossings.specs.Choosing.{Crossing-picked, Choosable, Choosing}
 use Rattle.crossings.proofs.NamedLaws.{
   zone-in,

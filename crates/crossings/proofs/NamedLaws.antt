@@ -14,7 +14,7 @@ use native.Mathlib.Omega.{arith}
 use lib.ListN.{length, drop}
 use Rattle.rules.specs.Network.{_⟶_, Proper, Reach}
 use Rattle.rules.specs.Calls.{arcs-of, handed}
-use Rattle.intake.proofs.Fine.{fine-proper}
+use Rattle.theory.proofs.Files.Accepting.{fine-proper}
 use Rattle.theory.proofs.Ground.ArcLists.{arcs-length}
 use Rattle.theory.proofs.Ground.Ascending.{span-in, in-span}
 use Rattle.theory.proofs.Reaching.Components.{together-refl, name-lowest}
@@ -26,7 +26,8 @@ use Rattle.search.specs.Marking.{Laid}
 use Rattle.memory.proofs.Places.{drop-deeper}
 use Rattle.search.proofs.Laying.{arranged-laid}
 use Rattle.arranged.proofs.ReadyLaws.{arcs-within}
-use Rattle.crossings.specs.Named.{name-at, top-at, named-rows, Named, named-at, tops-at}
+use Rattle.outward.specs.Standing.{name-at, top-at, named-rows, named-at, tops-at}
+use Rattle.crossings.specs.Named.{Named}
 use Rattle.crossings.specs.Choosing.{Way}
 
 module _ (n : ℕ) (ts hs : List ℕ) where

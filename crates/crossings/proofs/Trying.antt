@@ -19,9 +19,9 @@ use Rattle.search.specs.Marking.{Closed, Searchable, Searched}
 use Rattle.memory.proofs.Places.{drop-deeper}
 use Rattle.search.proofs.Closed.{closed-run, clear-closed}
 use Rattle.search.proofs.Course.{laid-same}
-use Rattle.crossings.specs.Named.{top-at, chosen-at, direct-at, tops-at}
+use Rattle.outward.specs.Standing.{top-at, chosen-at, direct-at, tops-at}
 use Rattle.crossings.specs.Choosing.{Came, Crossing-picked, Triable, Tried, Choosable, Choosing}
-use Rattle.crossings.proofs.MarkSet.{set-marked, set-kept, set-was}
+use Rattle.outward.proofs.MarkSet.{set-marked, set-kept, set-was}
 
 -- equal marks over equal rows are closed alike
 closed-same : (w w' : List ℕ) (zones starts rows marks : ℕ) → Sound (rows-of w (row-places zones starts rows)) →

@@ -14,7 +14,7 @@ use Rattle.arranged.specs.Rows.{Entry, Run}
 use Rattle.arranged.specs.Marks.{Marked}
 use Rattle.workmap.specs.Map.{search-at, rows-at}
 use Rattle.search.specs.Marking.{Laid, Clear, Closed}
-use Rattle.crossings.specs.Named.{top-at, named-rows, chosen-at, direct-at, tops-at}
+use Rattle.outward.specs.Standing.{top-at, named-rows, chosen-at, direct-at, tops-at}
 
 -- a run of entries leads from a to v
 abbrev pub Way : List ℕ → ℕ → ℕ → ℕ → Type 0

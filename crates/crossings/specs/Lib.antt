@@ -1,4 +1,3 @@
 -- What marking the arcs that cross from one component to another asks and leaves.
 pub mod Named
-pub mod Direct
 pub mod Choosing

@@ -1,77 +1,19 @@
 // The arcs of a skeleton that go from one component to another, in lent work memory. The arcs stand there in rows, the
-// zones have their names, and the names of all components stand in topological order. For a name, a mark is set for
-// each component that an arc leads to. Gone through in topological order, such a component is chosen unless a search
-// from one chosen before came to it: then that one lies between.
+// zones have their names, and the names of all components stand in topological order. For a name, `outward` sets a
+// mark for each component that an arc leads to. Gone through in topological order, such a component is chosen unless a
+// search from one chosen before came to it: then that one lies between.
 ghost use Rattle.search.specs.Marking.{Clear};
-ghost use Rattle.crossings.specs.Direct.{Leads-out, Leads, Led, Directable, Added};
 ghost use Rattle.crossings.specs.Choosing.{Triable, Tried, Choosable, Choosing};
 ghost use Rattle.workmap.specs.Map.{map-of};
-ghost use Rattle.crossings.specs.Named.{tops-at, Named, Crossed};
+ghost use Rattle.outward.specs.Standing.{tops-at};
+ghost use Rattle.crossings.specs.Named.{Named, Crossed};
 ghost use mathlib.Core.Path.{_≡_};
 ghost use Prim.Native.Nat.{_<_};
 use memory::wide;
+use outward::mark_direct;
 use search::search;
 use workmap::Map;
 use workmap::map_of;
-
-// Marks the name of the zone `head`, where it is another than `a`.
-fn note(work: &mut [u16], m: Map, a: usize, head: u16)
-    requires { ⌜ Directable (now work) (m .zones) ⌝ }
-    requires { ⌜ head < m .zones ⌝ }
-    requires { ⌜ m ≡ map-of (m .zones) (m .arcs) ⌝ }
-    ensures { λ r. ⌜ Added (now (work .entry)) (now (work .exit)) (m .zones)
-        (Leads-out (now (work .entry)) (m .zones) a head) ⌝ }
-{
-    let names = m.names.names;
-    let direct = m.cross.direct;
-    let h = wide(head);
-    let to = wide(work[names + h]);
-    if to == a {
-        return;
-    }
-    work[direct + to] = 1;
-}
-
-// Marks the name of every component that an arc from the zone `z` leads to, where `z` is of the one named `a`.
-fn mark_row(work: &mut [u16], m: Map, a: usize, z: usize)
-    requires { ⌜ Directable (now work) (m .zones) ⌝ }
-    requires { ⌜ z < m .zones ⌝ }
-    requires { ⌜ m ≡ map-of (m .zones) (m .arcs) ⌝ }
-    ensures { λ r. ⌜ Added (now (work .entry)) (now (work .exit)) (m .zones)
-        (Leads (now (work .entry)) (m .zones) a z) ⌝ }
-{
-    let names = m.names.names;
-    let starts = m.rows.starts;
-    let rows = m.rows.rows;
-    let name = wide(work[names + z]);
-    if name != a {
-        return;
-    }
-    let mut i = rows + wide(work[starts + z]);
-    let end = rows + wide(work[starts + z + 1]);
-    while i < end {
-        let head = work[i];
-        note(work, m, a, head);
-        i += 1;
-    }
-}
-
-// Marks the name of every component that an arc leads to out of the component with the name `a`. No zone of it is
-// below `a`.
-fn mark_direct(work: &mut [u16], m: Map, a: usize)
-    requires { ⌜ Directable (now work) (m .zones) ⌝ }
-    requires { ⌜ a < m .zones ⌝ }
-    requires { ⌜ m ≡ map-of (m .zones) (m .arcs) ⌝ }
-    ensures { λ r. ⌜ Added (now (work .entry)) (now (work .exit)) (m .zones)
-        (Led (now (work .entry)) (m .zones) a (m .zones)) ⌝ }
-{
-    let zones = m.zones;
-    let mut z = a;
-    while z < zones {
-        mark_row(work, m, a, z);
-        z += 1;
-    }
-}
 
 // Chooses the name `c` where it is direct and no search came to it, and searches on from it.
 fn try_one(work: &mut [u16], m: Map, c: usize)

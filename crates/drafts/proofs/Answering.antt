@@ -22,7 +22,7 @@ use Rattle.rules.specs.Plan.{plan}
 use Rattle.rules.specs.Calls.{network-tests, room-test, asked-work, handed, records-trouble}
 use Rattle.rules.specs.Promises.{Records-promise}
 use Rattle.theory.proofs.Files.Troubles.{passes, both-pass}
-use Rattle.intake.proofs.Fine.{fine, fine-few}
+use Rattle.theory.proofs.Files.Accepting.{fine, fine-few}
 use Rattle.workmap.specs.Map.{links-at, map-of}
 use Rattle.arranged.specs.Ready.{Readyable}
 use Rattle.rules.specs.Network.{Network}
@@ -49,7 +49,7 @@ module _ (n : ℕ) (ts hs : List ℕ) (room : ℕ) (w : List ℕ) where
         finishable = tt;
         keeps = λ ls f.
             let g = ap (λ (k : ℕ). records-trouble n ts hs k w) f ∙ e in
-            record { says = rw g refl; links-left = rw g refl; work-left = rw g refl };
+            record { told-is = rw g refl; links-left = rw g refl; work-left = rw g refl };
       }
 
   -- without a trouble the input passes the tests, and there are as many records as asked
@@ -89,7 +89,7 @@ module _ (n : ℕ) (ts hs : List ℕ) (room : ℕ) (w : List ℕ) where
         keeps = λ ls f.
             let g = ap (λ (k : ℕ). records-trouble n ts hs k w) f ∙ e in
             record {
-              says = rw g refl;
+              told-is = rw g refl;
               links-left =
                   rw g
                   (ap (λ (k : ℕ). filled w' (links-at n) ls k) (sym need ∙ L .links-are)
@@ -128,7 +128,7 @@ pub drafted-promise : {n k : ℕ} {ts hs w us vs : List ℕ} {xs ls : List Link}
 drafted-promise {n} {k} {us = us} {xs = xs} p e₁ e₂ e₃ =
     let q = p .keeps xs refl in
     record {
-      says = ap plan-told (e₃ .0) ∙ q .says;
+      told-is = ap plan-told (e₃ .0) ∙ q .told-is;
       links-left = e₂ ∙ ap (λ (m : ℕ). filled us (links-at n) xs m) e₁ ∙ q .links-left;
       work-left = e₃ .1 ∙ q .work-left;
     }

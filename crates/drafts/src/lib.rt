@@ -5,9 +5,9 @@ ghost use Prim.Native.Nat.{_≤_};
 ghost use lib.ListN.{length};
 ghost use Rattle.drafts.specs.Drafts.{need-of, Finishable, finished, Drafted};
 use figures::answer_of;
-use intake::Tested;
 use laying::lay;
 use memory::clear;
+use probes::Tested;
 use rules::PlanAnswer;
 use workmap::asked_work;
 use workmap::map_of;
@@ -23,9 +23,7 @@ pub fn draft(
     ensures { λ r. ⌜ Drafted zones (now (tails .entry)) (now (heads .entry)) room (now (work .entry))
         r (now (work .exit)) ⌝ }
 {
-    let found = intake::network(zones, tails, heads);
-    let worked = intake::work(found, zones, tails.len(), work.len());
-    let t = intake::room(worked, zones, room);
+    let t = admission::records(zones, tails, heads, room, work);
     if let Tested::Refused(trouble) = t {
         return PlanAnswer::Refused(trouble);
     }
@@ -50,7 +48,7 @@ pub fn need_of(answer: PlanAnswer) -> usize
 }
 
 // Clears the asked part of the work memory after a plan, and hands the answer on.
-pub fn finish(answer: PlanAnswer, zones: usize, arcs: usize, work: &mut [u16]) -> PlanAnswer
+pub fn clear_draft(answer: PlanAnswer, zones: usize, arcs: usize, work: &mut [u16]) -> PlanAnswer
     requires { ⌜ Finishable answer zones arcs (now work) ⌝ }
     ensures { λ r. ⌜ (r ≡ answer) × (now (work .exit) ≡ finished answer zones arcs (now (work .entry))) ⌝ }
 {

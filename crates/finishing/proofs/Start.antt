@@ -15,16 +15,16 @@ use Rattle.workmap.specs.declared.OrderAt.{OrderAt}
 use Rattle.arranged.specs.Rows.{rows-of}
 use Rattle.arranged.specs.Marks.{zeros, Marked}
 use Rattle.arranged.proofs.Zeros.{same?, zeros-other, zeros-mark, zeros-none, zeros-clear}
-use Rattle.finishing.specs.Deep.{Deep}
+use Rattle.descent.specs.Deep.{Deep}
 use Rattle.memory.specs.Regions.{cell, part}
 use Rattle.memory.specs.Storing.{Copied}
-use Rattle.finishing.specs.Memory.{Ready, State, Order-kept, Finished}
+use Rattle.descent.specs.Memory.{Ready, State, Order-kept, Finished}
 use Rattle.memory.proofs.Regions.{at-below, part-long, part-at}
 use Rattle.memory.proofs.Stores.{take-sets, drop-sets, getD-sets-at, getD-sets-high}
 use Rattle.memory.proofs.Copies.{copied-long}
-use Rattle.finishing.proofs.Keeping.{ready-kept, spans}
-use Rattle.finishing.proofs.Plain.Push.{push}
-use Rattle.finishing.proofs.Plain.Pop.{deep-begun, deep-stands}
+use Rattle.descent.proofs.Keeping.{ready-kept, spans}
+use Rattle.descent.proofs.Push.{push}
+use Rattle.finishing.proofs.Pop.{deep-begun, deep-stands}
 
 -- The search that has not begun: no mark is set, and every next place is its row's start.
 none-begun : {w : List ℕ} {R : RowsAt} {O : OrderAt} → Ready w R O

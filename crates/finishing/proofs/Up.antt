@@ -12,9 +12,9 @@ use Rattle.workmap.specs.declared.OrderAt.{OrderAt}
 use Rattle.arranged.specs.Marks.{zeros}
 use Rattle.arranged.proofs.Zeros.{zeros-other}
 use Rattle.memory.specs.Regions.{cell}
-use Rattle.finishing.specs.Memory.{Ready, State, Order-kept, Full}
-use Rattle.finishing.proofs.Keeping.{spans}
-use Rattle.finishing.proofs.Plain.Pop.{pop}
+use Rattle.descent.specs.Memory.{Ready, State, Order-kept, Full}
+use Rattle.descent.proofs.Keeping.{spans}
+use Rattle.finishing.proofs.Pop.{pop}
 
 -- all heads of the top have marks, and the top is stored behind the ended zones
 module _ {w w' : List ℕ} {R : RowsAt} {O : OrderAt} {lo hi : ℕ}

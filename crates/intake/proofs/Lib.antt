@@ -1,4 +1,3 @@
--- The laws that the proofs of the tests and of the calls cite, and what holds of a network that passes its tests.
-pub mod Chains
+-- Laws of the arcs' tests one after the other, and of the counts of a network that passes its tests.
 pub mod Along
-pub mod Fine
+pub mod Counts

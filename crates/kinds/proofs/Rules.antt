@@ -29,10 +29,10 @@ use Rattle.theory.proofs.Reaching.Components.{names-zone}
 use Rattle.rules.specs.Calls.{arcs-of}
 use Rattle.workmap.specs.declared.KindsAt.{KindsAt}
 use Rattle.workmap.specs.declared.ListsAt.{ListsAt}
-use Rattle.kinds.specs.Kinds.{comes, goes, own-kind, Markable, Marking}
+use Rattle.borders.specs.Borders.{comes, goes, own-kind, Markable, Marking}
 use Rattle.kinds.specs.Lists.{Nameable}
-use Rattle.kinds.proofs.Marks.{names-around}
-use Rattle.kinds.proofs.Tests.{keep-keep, yes-zero, yes-one, both-ways}
+use Rattle.borders.proofs.Marks.{names-around}
+use Rattle.borders.proofs.Tests.{keep-keep, yes-zero, yes-one, both-ways}
 
 -- f gives each zone its name
 module _ {N : Network} (P : Proper N) (f : ℕ → ℕ) (named : (v : ℕ) → In v (N .zones) → f v ≡ name N v) where

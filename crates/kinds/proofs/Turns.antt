@@ -18,9 +18,9 @@ use Rattle.theory.proofs.Ground.Ascending.{span-in}
 use Rattle.workmap.specs.declared.KindsAt.{KindsAt}
 use Rattle.memory.specs.Regions.{cell}
 use Rattle.memory.proofs.Stores.{getD-sets-low, getD-sets-high, sets-more}
-use Rattle.kinds.specs.Kinds.{Kinds-room, own-kind}
+use Rattle.borders.specs.Borders.{Kinds-room, own-kind}
 use Rattle.kinds.specs.Lists.{Listable, Listing}
-use Rattle.kinds.proofs.Tests.{keep-few, keep-put, keep-skip}
+use Rattle.borders.proofs.Tests.{keep-few, keep-put, keep-skip}
 
 -- no more than all zones are put from `to` on
 module _ {k : KindsAt} {to : ℕ} {w : List ℕ} (L : Listable k to w) (xs : List ℕ) (few : length xs ≤ k .zones) where

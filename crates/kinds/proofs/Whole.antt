@@ -18,10 +18,10 @@ use Rattle.workmap.specs.declared.ListsAt.{ListsAt}
 use Rattle.memory.specs.Regions.{Holds}
 use Rattle.memory.proofs.Places.{drop-deeper}
 use Rattle.memory.proofs.Stores.{drop-sets, sets-holds, holds-sets}
-use Rattle.kinds.specs.Kinds.{own-kind, Marking}
+use Rattle.borders.specs.Borders.{own-kind, Marking}
 use Rattle.kinds.specs.Lists.{Listable, Listing, Nameable, Listed}
-use Rattle.kinds.proofs.Tests.{keep-few}
-use Rattle.kinds.proofs.Marks.{room-around}
+use Rattle.borders.proofs.Tests.{keep-few}
+use Rattle.borders.proofs.Marks.{room-around}
 use Rattle.kinds.proofs.Rules.{sources-list, sinks-list, alone-list, for-marking}
 use Rattle.kinds.proofs.Rules.{named-after, entered-after, exited-after}
 use Rattle.kinds.proofs.Turns.{list-long, list-same, listable-next}

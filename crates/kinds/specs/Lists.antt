@@ -20,7 +20,7 @@ use Rattle.workmap.specs.declared.ListsAt.{ListsAt}
 use Rattle.memory.specs.Regions.{cell, Holds}
 use Rattle.arranged.specs.Arranged.{Between}
 use Rattle.kinds.specs.declared.Counts.{Counts}
-use Rattle.kinds.specs.Kinds.{Kinds-room, own-kind}
+use Rattle.borders.specs.Borders.{Kinds-room, own-kind}
 
 -- names may be put from `to` on: between what is noted and the zones' names, or behind them
 pub record Listable (k : KindsAt) (to : ℕ) (w : List ℕ) : Type 0 where

@@ -1,15 +1,14 @@
-// The kinds of the components, in lent work memory, where each zone's name stands: for every name whether an arc comes
-// into its component from another and whether one goes out to another, by one pass over the arcs; then the names of the
-// sources, of the sinks and of the components alone, as three ascending lists, and how many there are, by a pass over
-// the zones for each. The map says where everything stands.
+// The kinds of the components, in lent work memory, where each zone's name stands: every arc is noted at the names of
+// its ends; then the names of the sources, of the sinks and of the components alone are put, as three ascending lists,
+// and counted, by a pass over the zones for each. The map says where everything stands.
+use borders::mark;
 use workmap::KindsAt;
 use workmap::ListsAt;
 ghost use mathlib.Core.Path.{_≡_};
 ghost use Prim.Native.Nat.{_<_};
-ghost use lib.ListN.{length};
 ghost use Rattle.rules.specs.Network.{network-of};
 ghost use Rattle.rules.specs.Calls.{arcs-of};
-ghost use Rattle.kinds.specs.Kinds.{Kinds-room, Noted, Markable, Marking, own-kind};
+ghost use Rattle.borders.specs.Borders.{Kinds-room, own-kind};
 ghost use Rattle.kinds.specs.Lists.{Listable, Listing, Nameable, Listed};
 
 // How many components are sources, sinks and alone.
@@ -17,38 +16,6 @@ pub struct Counts {
     pub sources: usize,
     pub sinks: usize,
     pub alone: usize,
-}
-
-// Notes an arc at the names of its ends, where they differ.
-fn note(at: KindsAt, tail: u16, head: u16, work: &mut [u16])
-    requires { ⌜ Kinds-room at (now work) × ((tail < at .zones) × (head < at .zones)) ⌝ }
-    ensures { λ _. ⌜ Noted at tail head (now (work .entry)) (now (work .exit)) ⌝ }
-{
-    let names = at.names;
-    let entered = at.entered;
-    let exited = at.exited;
-    let t = names + memory::wide(tail);
-    let h = names + memory::wide(head);
-    let a = memory::wide(work[t]);
-    let b = memory::wide(work[h]);
-    if a == b {
-        return;
-    }
-    work[entered + b] = 1;
-    work[exited + a] = 1;
-}
-
-// Notes every arc. The two regions are clear at the start.
-fn mark(at: KindsAt, tails: &[u16], heads: &[u16], work: &mut [u16])
-    requires { ⌜ Markable at (now tails) (now heads) (now work) ⌝ }
-    ensures { λ _. ⌜ Marking at (arcs-of (now (tails .entry)) (now (heads .entry))) (length (now (tails .entry)))
-        (now (work .entry)) (now (work .exit)) ⌝ }
-{
-    let mut i = 0;
-    while i < tails.len() {
-        note(at, tails[i], heads[i], work);
-        i += 1;
-    }
 }
 
 // Whether z is a name, with x in the region of what is entered and y in the region of what is left.

@@ -30,7 +30,7 @@ fn put_link(out: &mut [u8], at: usize, from: usize, to: usize, why: u16) -> usiz
 }
 
 // Puts the lines of the first `count` links, whose starts, ends and whys are lists of numbers.
-pub fn put_links(
+pub fn put_lines(
     out: &mut [u8],
     at: usize,
     from: &[u16],

@@ -15,8 +15,7 @@ use Rattle.rules.specs.File.{Given, Acceptable}
 use Rattle.rules.specs.Calls.{first-trouble, network-tests, asked-work, plan-trouble}
 use Rattle.theory.proofs.Ground.ArcLists.{arcs-split}
 use Rattle.theory.proofs.Files.Troubles.{pass, first-trouble-after}
-use Rattle.theory.proofs.Files.Accepting.{acceptable-tests}
-use Rattle.intake.proofs.Fine.{fine, fine-few}
+use Rattle.theory.proofs.Files.Accepting.{acceptable-tests, fine, fine-few}
 
 -- a network that a call accepts passes the tests of a network that is handed in
 pub network-passes : (g : Given) → Acceptable g

@@ -52,13 +52,13 @@ module _ {s ts hs ts' hs' : List ℕ} {a : ReadAnswer} (k : Read-promise s ts hs
   -- a file that was refused prints the line of the trouble
   pub refused-prints : {t : Trouble} → a ≡ ReadAnswer.Refused t → printed s ≡ refusal-line t
   refused-prints {t} e =
-      let f = read-refused s ts hs t (sym (ap read-told e) ∙ k .says) in
+      let f = read-refused s ts hs t (sym (ap read-told e) ∙ k .told-is) in
       printed-refused s (rw (x, y) at f)
 
   -- a file that was read hands on its network
   pub read-hands : {n m : ℕ} → a ≡ ReadAnswer.Done n m → Handed s n m ts' hs'
   read-hands {n} {m} e =
-      let f = read-done s ts hs n m (sym (ap read-told e) ∙ k .says) in
+      let f = read-done s ts hs n m (sym (ap read-told e) ∙ k .told-is) in
       let es = f .given .arcs in
       let t-is : ts' ≡ over (arc-tails es) ts = k .tails ∙ ap (λ (r : Reading Given). found-tails r ts) (f .finds) in
       let h-is : hs' ≡ over (arc-heads es) hs = k .heads ∙ ap (λ (r : Reading Given). found-heads r hs) (f .finds) in

@@ -5,9 +5,9 @@
 use Prim.Native.Nat.{ℕ, _+_, _≤_}
 use native.Mathlib.Nat.{zero-add}
 use native.Mathlib.Omega.{arith}
-use mathlib.Core.Path.{_≡_, sym, ap, _∙_}
+use mathlib.Core.Path.{_≡_, refl, sym, ap, _∙_}
 use mathlib.Core.List.{List, _++_, map}
-use mathlib.Core.Option.{none}
+use mathlib.Core.Option.{none, some}
 use lib.ListN.{length, take, drop, length-append, length-map}
 use lib.Seq.{take-at}
 use Rattle.rules.specs.declared.PlanAnswer.{PlanAnswer}
@@ -21,13 +21,13 @@ use Rattle.rules.specs.Answers.{plan-told}
 use Rattle.rules.specs.Calls.{arcs-of, handed, network-tests, plan-trouble}
 use Rattle.rules.specs.Promises.{Plan-promise}
 use Rattle.theory.proofs.Ground.ArcLists.{arcs-length}
-use Rattle.theory.proofs.Files.AnswerLaws.{done-not-refused, done-once}
 use Rattle.theory.proofs.Planning.PlanCount.{plan-length}
-use Rattle.intake.specs.Tested.{Fine}
+use Rattle.theory.proofs.Files.Accepting.{Fine, fine, fine-proper}
 use Rattle.theory.proofs.Files.Troubles.{both-pass}
-use Rattle.intake.proofs.Fine.{fine, fine-proper}
+use Rattle.theory.proofs.Demands.Calls.{Link-lists, Plan-call}
+use Rattle.theory.proofs.Demands.Answers.{plan-done-when, plan-refused-when}
+use Rattle.theory.proofs.Demands.Plans.{plan-leaves}
 use Rattle.connect.proofs.Few.{need-few}
-use Rattle.plan.proofs.Corollaries.{told, from-is, to-is, why-is}
 use Rattle.buffer.specs.Put.{put, Written}
 use Rattle.lines.specs.Lines.{lines-of}
 use Rattle.text.specs.Texts.{plan-text, Putable, figures, answer-lines}
@@ -99,29 +99,50 @@ module _ (n : ℕ) (ts hs starts ends whys work : List ℕ) (e : plan-trouble n 
       (sym links-are)
       ∙ plan-put g _ _ _)
 
+  -- PLAN as it was called
+  abbrev called : (a : PlanAnswer) {f' t' y' w' : List ℕ}
+      → Plan-promise n ts hs starts ends whys work f' t' y' w' (plan-told a)
+      → Plan-call (record { zones = n; tails = ts; heads = hs })
+  called a {f'} {t'} {y'} {w'} k = record {
+    lent = record { from = starts; to = ends; why = whys };
+    left = record { from = f'; to = t'; why = y' };
+    work = work;
+    work' = w';
+    answer = a;
+    promise = k;
+  }
+
   -- PLAN's answer and what it leaves: they fit into 20,000 bytes, and what is put for them is the lines of the plan
   pub planned : (a : PlanAnswer) {f' t' y' w' : List ℕ} (out : List ℕ) → 20000 ≤ length out
       → Plan-promise n ts hs starts ends whys work f' t' y' w' (plan-told a)
       → Putable a f' t' y' out × (answer-lines n (length ts) a f' t' y' ≡ handed-lines n ts hs)
   planned (PlanAnswer.Refused t) out l k =
-      absurd (done-not-refused 5 _ t (sym (told n ts hs starts ends whys work e (PlanAnswer.Refused t) _ _ _ _ k)))
+      let some-trouble : none ≡ some t = sym e ∙ plan-refused-when (called (PlanAnswer.Refused t) k) .0 refl in
+      let never : _≡_ {A = ℕ} 0 1 = cc in
+      absurd (omega arith)
   planned (PlanAnswer.Done s t q p need) out l k =
-      let r = PlanAnswer.Done s t q p need in
-      let v = done-once (told n ts hs starts ends whys work e r _ _ _ _ k) in
-      let s-is : s ≡ length (sources N) = cc in
-      let t-is : t ≡ length (sinks N) = cc in
-      let q-is : q ≡ length (alone N) = cc in
-      let p-is : p ≡ plan-pairs N = cc in
-      let need-is : need ≡ plan-need N = cc in
-      let count : length (plan N) ≡ need = links-are ∙ sym need-is in
-      let starts-are = from-is n ts hs starts ends whys work e r _ _ _ _ k in
-      let ends-are = to-is n ts hs starts ends whys work e r _ _ _ _ k in
-      let whys-are = why-is n ts hs starts ends whys work e r _ _ _ _ k in (
+      let c = called (PlanAnswer.Done s t q p need) k in
+      let counts = plan-done-when c .0 refl .1 in
+      let count : length (plan N) ≡ need = links-are ∙ sym (counts .need-is) in
+      let left = plan-leaves c e in
+      let starts-are = ap (λ (x : Link-lists). x .from) left in
+      let ends-are = ap (λ (x : Link-lists). x .to) left in
+      let whys-are = ap (λ (x : Link-lists). x .why) left in (
         record {
           starts-fit = column-fits (λ (l : Link). l .start) (plan N) starts starts-are count;
           ends-fit = column-fits (λ (l : Link). l .end) (plan N) ends ends-are count;
           whys-fit = column-fits (λ (l : Link). why-number (l .why)) (plan N) whys whys-are count;
-          lines-fit = omega (arith, need-most);
+          lines-fit = omega (arith, need-most, counts .need-is);
         },
-        rw (s-is, t-is, q-is, p-is, need-is, starts-are, ends-are, whys-are) lines-are,
+        rw (
+          counts .sources-are,
+          counts .sinks-are,
+          counts .alone-are,
+          counts .pairs-are,
+          counts .need-is,
+          starts-are,
+          ends-are,
+          whys-are,
+        )
+            lines-are,
       )

@@ -1,134 +1,38 @@
-// The runs of `read`, as rows of a table.
-ghost use Prim.Native.Nat.{_<_};
-use printing::least;
+// The runs of `read`.
 use rules::ReadAnswer;
-
-// What each row shows: files that are accepted; a first number, one in the middle and the last that are refused; bytes
-// after the arcs; and lists that are exact or one short, before any arc is read and after ARCS.
-const LABELS: [[u8; 24]; 39] = [
-    *b"A.......................",
-    *b"one zone................",
-    *b"1024 zones..............",
-    *b"last of 1024 zones......",
-    *b"K.......................",
-    *b"short after a group.....",
-    *b"short after two groups..",
-    *b"long....................",
-    *b"L.......................",
-    *b"loose in two groups.....",
-    *b"no zones................",
-    *b"1025 zones..............",
-    *b"2097151 zones...........",
-    *b"short arc count.........",
-    *b"long arc count..........",
-    *b"loose arc count.........",
-    *b"4097 arcs...............",
-    *b"short tail..............",
-    *b"long tail...............",
-    *b"loose tail..............",
-    *b"tail out of range.......",
-    *b"first tail out of range.",
-    *b"first arc to itself.....",
-    *b"no head.................",
-    *b"short head..............",
-    *b"long head...............",
-    *b"loose head..............",
-    *b"head out of range.......",
-    *b"head 65537..............",
-    *b"self....................",
-    *b"last arc to itself......",
-    *b"extra after no arc......",
-    *b"extra after an arc......",
-    *b"room exact..............",
-    *b"tails one short.........",
-    *b"heads one short.........",
-    *b"room before the arcs....",
-    *b"arcs before room........",
-    *b"4096 arcs, no room......",
-];
-
-// Each row's file: its length, the lengths of the two lists that are lent, and its bytes.
-const FILES: [[u8; 15]; 39] = [
-    *b"\x0c\x06\x06\x06\x05\x00\x02\x02\x03\x00\x04\x01\x04\x04\x05",
-    *b"\x02\x00\x00\x01\x00\x00\x00\x00\x00\x00\x00\x00\x00\x00\x00",
-    *b"\x03\x06\x06\x80\x08\x00\x00\x00\x00\x00\x00\x00\x00\x00\x00",
-    *b"\x06\x01\x01\x80\x08\x01\xff\x07\x00\x00\x00\x00\x00\x00\x00",
-    *b"\x00\x06\x06\x00\x00\x00\x00\x00\x00\x00\x00\x00\x00\x00\x00",
-    *b"\x01\x06\x06\x80\x00\x00\x00\x00\x00\x00\x00\x00\x00\x00\x00",
-    *b"\x02\x06\x06\x80\x80\x00\x00\x00\x00\x00\x00\x00\x00\x00\x00",
-    *b"\x03\x06\x06\x80\x80\x80\x00\x00\x00\x00\x00\x00\x00\x00\x00",
-    *b"\x03\x06\x06\x80\x80\x00\x00\x00\x00\x00\x00\x00\x00\x00\x00",
-    *b"\x02\x06\x06\x80\x00\x00\x00\x00\x00\x00\x00\x00\x00\x00\x00",
-    *b"\x02\x06\x06\x00\x00\x00\x00\x00\x00\x00\x00\x00\x00\x00\x00",
-    *b"\x03\x06\x06\x81\x08\x00\x00\x00\x00\x00\x00\x00\x00\x00\x00",
-    *b"\x04\x06\x06\xff\xff\x7f\x00\x00\x00\x00\x00\x00\x00\x00\x00",
-    *b"\x01\x06\x06\x02\x00\x00\x00\x00\x00\x00\x00\x00\x00\x00\x00",
-    *b"\x04\x06\x06\x02\x80\x80\x80\x00\x00\x00\x00\x00\x00\x00\x00",
-    *b"\x03\x06\x06\x02\x81\x00\x00\x00\x00\x00\x00\x00\x00\x00\x00",
-    *b"\x04\x06\x06\x80\x08\x81\x20\x00\x00\x00\x00\x00\x00\x00\x00",
-    *b"\x05\x06\x06\x03\x02\x00\x01\x82\x00\x00\x00\x00\x00\x00\x00",
-    *b"\x07\x06\x06\x03\x02\x00\x01\x82\x80\x80\x00\x00\x00\x00\x00",
-    *b"\x07\x06\x06\x03\x02\x00\x01\x82\x00\x00\x00\x00\x00\x00\x00",
-    *b"\x06\x06\x06\x03\x02\x00\x01\x03\x00\x00\x00\x00\x00\x00\x00",
-    *b"\x04\x06\x06\x02\x01\x02\x00\x00\x00\x00\x00\x00\x00\x00\x00",
-    *b"\x06\x06\x06\x03\x02\x01\x01\x00\x02\x00\x00\x00\x00\x00\x00",
-    *b"\x03\x06\x06\x02\x01\x00\x00\x00\x00\x00\x00\x00\x00\x00\x00",
-    *b"\x04\x06\x06\x02\x01\x00\x81\x00\x00\x00\x00\x00\x00\x00\x00",
-    *b"\x06\x06\x06\x02\x01\x00\x81\x80\x80\x00\x00\x00\x00\x00\x00",
-    *b"\x06\x06\x06\x02\x01\x00\x81\x80\x00\x00\x00\x00\x00\x00\x00",
-    *b"\x04\x06\x06\x02\x01\x00\x02\x00\x00\x00\x00\x00\x00\x00\x00",
-    *b"\x06\x06\x06\x02\x01\x00\x81\x80\x04\x00\x00\x00\x00\x00\x00",
-    *b"\x04\x06\x06\x02\x01\x01\x01\x00\x00\x00\x00\x00\x00\x00\x00",
-    *b"\x06\x06\x06\x03\x02\x00\x01\x02\x02\x00\x00\x00\x00\x00\x00",
-    *b"\x03\x06\x06\x01\x00\x00\x00\x00\x00\x00\x00\x00\x00\x00\x00",
-    *b"\x06\x06\x06\x02\x01\x00\x01\x00\x01\x00\x00\x00\x00\x00\x00",
-    *b"\x06\x02\x02\x03\x02\x00\x01\x01\x02\x00\x00\x00\x00\x00\x00",
-    *b"\x06\x01\x02\x03\x02\x00\x01\x01\x02\x00\x00\x00\x00\x00\x00",
-    *b"\x06\x02\x01\x03\x02\x00\x01\x01\x02\x00\x00\x00\x00\x00\x00",
-    *b"\x04\x00\x01\x02\x01\x05\x05\x00\x00\x00\x00\x00\x00\x00\x00",
-    *b"\x04\x00\x00\x80\x08\x81\x20\x00\x00\x00\x00\x00\x00\x00\x00",
-    *b"\x04\x06\x06\x80\x08\x80\x20\x00\x00\x00\x00\x00\x00\x00\x00",
-];
+use runtable::at;
 
 // What reading answers: number, place, zones and arcs.
-pub fn answer(label: &[u8], file: &[u8], tails: &mut [u16], heads: &mut [u16]) {
-    printing::label(label);
-    match netfile::read(file, tails, heads) {
+pub fn show(answer: ReadAnswer) {
+    match answer {
         ReadAnswer::Done { zones, arcs } => {
-            io::write_all(1, b" 0 0");
-            printing::number(zones);
+            printing::done(zones);
             printing::number(arcs);
         }
         ReadAnswer::Refused(t) => {
-            printing::trouble(t);
-            io::write_all(1, b" 0 0");
+            printing::refused(t);
+            printing::number(0);
         }
     }
 }
 
-// Reads a file into two lists, and prints a line.
-fn line(label: &[u8], file: &[u8], tails: &mut [u16], heads: &mut [u16]) {
-    answer(label, file, tails, heads);
+// Reads a file into two lists, and prints the line after its label.
+fn line(file: &[u8], tails: &mut [u16], heads: &mut [u16]) {
+    show(netfile::read(file, tails, heads));
     printing::list(tails);
     printing::list(heads);
-    io::write_all(1, b"\n");
+    printing::line_end();
 }
 
-// A row, with lists that are 7 before.
-fn row(label: [u8; 24], given: [u8; 15]) {
-    let n = least(given[0] as usize, 12);
-    let a = least(given[1] as usize, 6);
-    let b = least(given[2] as usize, 6);
+// Reads a row's file, into lists that are 7 before.
+pub fn run(given: &[u16]) {
+    let file = runtable::bytes(runtable::part(given, 5, 12));
+    let n = runtable::least(at(given, 2), 12);
     let mut tails = [7u16; 6];
     let mut heads = [7u16; 6];
-    line(&label, &given[3..3 + n], &mut tails[0..a], &mut heads[0..b]);
-}
-
-// All rows.
-pub fn rows() {
-    let mut i = 0;
-    while i < 39 {
-        row(LABELS[i], FILES[i]);
-        i += 1;
-    }
+    line(
+        &file[0..n],
+        runtable::front(&mut tails, at(given, 3)),
+        runtable::front(&mut heads, at(given, 4)),
+    );
 }

@@ -19,10 +19,10 @@ use Rattle.rules.specs.Calls.{strong-trouble, reach-trouble}
 use Rattle.rules.specs.Answers.{strong-told, reach-told}
 use Rattle.rules.specs.Promises.{Strong-promise, Reach-promise}
 use Rattle.theory.proofs.Files.Troubles.{passes, both-pass}
-use Rattle.intake.proofs.Fine.{fine}
+use Rattle.theory.proofs.Files.Accepting.{fine}
 use Rattle.workmap.specs.Map.{map-of}
 use Rattle.arranged.specs.Ready.{Readyable}
-use Rattle.network.specs.Promises.{Askable, Answered}
+use Rattle.questions.specs.Questions.{Askable, Answered}
 
 -- a network and a memory without trouble are ready for every search
 pub tests-ready : (n : ℕ) (ts hs w : List ℕ) → first-trouble (network-tests n ts hs) ≡ none →
@@ -48,13 +48,13 @@ module _ (n : ℕ) (ts hs w : List ℕ) where
   -- STRONG refuses
   pub strong-refused : (t : Trouble) → strong-trouble n ts hs w ≡ some t →
       Strong-promise n ts hs w w (strong-told (StrongAnswer.Refused t))
-  strong-refused t e = record { says = rw e refl; work = rw e refl }
+  strong-refused t e = record { told-is = rw e refl; work = rw e refl }
 
   -- STRONG answers
   pub strong-done : (w' : List ℕ) (b : Bool) → strong-trouble n ts hs w ≡ none →
       Answered b (strong (handed n ts hs)) (asked-work n (length ts)) w w' →
       Strong-promise n ts hs w w' (strong-told (StrongAnswer.Done b))
-  strong-done w' b e A = record { says = rw (e, A .answer) refl; work = rw e (A .work) }
+  strong-done w' b e A = record { told-is = rw (e, A .answer) refl; work = rw e (A .work) }
 
 module _ (n : ℕ) (ts hs : List ℕ) (from to : ℕ) (w : List ℕ) where
   -- what REACH's tests leave
@@ -77,10 +77,10 @@ module _ (n : ℕ) (ts hs : List ℕ) (from to : ℕ) (w : List ℕ) where
   -- REACH refuses
   pub reach-refused : (t : Trouble) → reach-trouble n ts hs from to w ≡ some t →
       Reach-promise n ts hs from to w w (reach-told (ReachAnswer.Refused t))
-  reach-refused t e = record { says = rw e refl; work = rw e refl }
+  reach-refused t e = record { told-is = rw e refl; work = rw e refl }
 
   -- REACH answers
   pub reach-done : (w' : List ℕ) (b : Bool) → reach-trouble n ts hs from to w ≡ none →
       Answered b (reaches (handed n ts hs) from to) (asked-work n (length ts)) w w' →
       Reach-promise n ts hs from to w w' (reach-told (ReachAnswer.Done b))
-  reach-done w' b e A = record { says = rw (e, A .answer) refl; work = rw e (A .work) }
+  reach-done w' b e A = record { told-is = rw (e, A .answer) refl; work = rw e (A .work) }

@@ -1,101 +1,20 @@
-// Whether a network is strong, and whether a zone reaches another. The look over the marks is for the
-// calls that come after, too.
-ghost use mathlib.Core.Path.{_≡_};
-ghost use mathlib.Core.Bool.{_&&_};
-ghost use Prim.Native.Nat.{_+_, _≤_};
-ghost use lib.ListN.{length};
+// STRONG and REACH: whether a network is strong, and whether a zone reaches another. The tests come first, then the
+// question is answered in the lent work memory.
 ghost use Rattle.rules.specs.Answers.{strong-told, reach-told};
 ghost use Rattle.rules.specs.Promises.{Strong-promise, Reach-promise};
-ghost use Rattle.rules.specs.Network.{strong, reaches};
-ghost use Rattle.rules.specs.Calls.{asked-work, handed};
-ghost use Rattle.search.specs.Marking.{Clear, Searchable};
-ghost use Rattle.network.specs.Marks.{Says-all};
-ghost use Rattle.arranged.specs.Ready.{Readyable};
-ghost use Rattle.network.specs.Promises.{Askable, Answered, Swept};
-use arranged::arrange;
-use arranged::ready;
-use intake::Tested;
-use memory::clear;
+use probes::Tested;
+use questions::joined;
+use questions::reached;
 use rules::ReachAnswer;
 use rules::StrongAnswer;
-use search::search;
-use workmap::Map;
-use workmap::RowsAt;
-use workmap::SearchAt;
-use workmap::asked_work;
 use workmap::map_of;
-
-// Whether each of the zones has a mark.
-pub fn all_marked(work: &[u16], marks: usize, zones: usize) -> bool
-    requires { ⌜ marks + zones ≤ length (now work) ⌝ }
-    ensures { λ r. ⌜ Says-all (now (work .entry)) marks zones r ⌝ }
-{
-    let mut i = 0;
-    while i < zones {
-        if work[marks + i] == 0 {
-            return false;
-        }
-        i += 1;
-    }
-    true
-}
-
-// Whether two answers are both yes.
-fn both(first: bool, second: bool) -> bool
-    ensures { λ r. ⌜ r ≡ (first && second) ⌝ }
-{
-    if first {
-        return second;
-    }
-    false
-}
-
-// Searches from zone 0 along the rows, and answers whether the search came everywhere.
-fn sweep(work: &mut [u16], rows: RowsAt, at: SearchAt) -> bool
-    requires { ⌜ Searchable (now work) rows at 0 ⌝ }
-    requires { ⌜ Clear (now work) (at .marks) (rows .zones) ⌝ }
-    ensures { λ r. ⌜ Swept (now (work .entry)) (now (work .exit)) rows at r ⌝ }
-{
-    search(work, rows, at, 0);
-    all_marked(work, at.marks, rows.zones)
-}
-
-// Whether zone 0 comes everywhere along the arcs, and against them.
-fn joined(m: Map, tails: &[u16], heads: &[u16], work: &mut [u16]) -> bool
-    requires { ⌜ Readyable m (now tails) (now heads) (now work) ⌝ }
-    ensures { λ r. ⌜ Answered r (strong (handed (m .zones) (now (tails .entry)) (now (heads .entry))))
-        (m .asked) (now (work .entry)) (now (work .exit)) ⌝ }
-{
-    let asked = m.asked;
-    ready(m, tails, heads, work);
-    let there = sweep(work, m.rows, m.search);
-    let back = sweep(work, m.turned, m.back);
-    clear(work, asked);
-    both(there, back)
-}
-
-// Whether a search from one zone came to another. It goes along the arcs only, so these are arranged as given.
-fn reached(m: Map, tails: &[u16], heads: &[u16], from: usize, to: usize, work: &mut [u16]) -> bool
-    requires { ⌜ Askable m (now tails) (now heads) from to (now work) ⌝ }
-    ensures { λ r. ⌜ Answered r (reaches (handed (m .zones) (now (tails .entry)) (now (heads .entry))) from to)
-        (m .asked) (now (work .entry)) (now (work .exit)) ⌝ }
-{
-    let rows = m.rows;
-    let at = m.search;
-    clear(work, at.queue);
-    arrange(rows, tails, heads, work);
-    search(work, rows, at, from);
-    let mark = work[at.marks + to];
-    clear(work, m.asked);
-    mark != 0
-}
 
 // STRONG: whether every zone reaches every zone.
 pub fn strong(zones: usize, tails: &[u16], heads: &[u16], work: &mut [u16]) -> StrongAnswer
     ensures { λ r. ⌜ Strong-promise zones (now (tails .entry)) (now (heads .entry)) (now (work .entry))
         (now (work .exit)) (strong-told r) ⌝ }
 {
-    let t = intake::strong(zones, tails, heads, work);
+    let t = admission::strong(zones, tails, heads, work);
     if let Tested::Refused(trouble) = t {
         return StrongAnswer::Refused(trouble);
     }
@@ -116,7 +35,7 @@ pub fn reach(
     ensures { λ r. ⌜ Reach-promise zones (now (tails .entry)) (now (heads .entry)) from to (now (work .entry))
         (now (work .exit)) (reach-told r) ⌝ }
 {
-    let t = intake::reach(zones, tails, heads, from, to, work);
+    let t = admission::reach(zones, tails, heads, from, to, work);
     if let Tested::Refused(trouble) = t {
         return ReachAnswer::Refused(trouble);
     }

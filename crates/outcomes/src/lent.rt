@@ -1,5 +1,5 @@
 // The memory that is lent to the calls: what it holds before, and whether it holds what it has to afterwards.
-use printing::least;
+use runtable::least;
 
 // What the lent lists hold before: no zone and no why has this number.
 pub const UNSET: u16 = 999;

@@ -2,10 +2,12 @@
 ghost use Prim.Native.Nat.{_≤_, _<_};
 use super::outcome;
 use super::outcome::Outcome;
+use printing::decimal;
+use printing::put;
 
-// A number.
-fn number(n: usize) {
-    io::print_decimal(1, n as u64);
+// A text.
+fn say(text: &[u8]) {
+    io::write_all(1, text);
 }
 
 // A row's letter, or its place in the table where it has none.
@@ -13,17 +15,15 @@ fn label(i: usize, letter: u16)
     requires { ⌜ i < 20 ⌝ }
 {
     if letter == 45 {
-        number(i + 1);
-        return;
+        decimal(i + 1);
+    } else {
+        put((letter % 256) as u8);
     }
-    let byte = (letter % 256) as u8;
-    let text = [byte; 1];
-    io::write_all(1, &text);
 }
 
 // A number of 16 bits.
 fn small(n: u16) {
-    number(n as usize);
+    decimal(n as usize);
 }
 
 // The first n numbers, each after a space.
@@ -33,7 +33,7 @@ fn list(xs: &[u16], n: usize) {
         if n <= i {
             return;
         }
-        io::write_all(1, b" ");
+        put(b' ');
         small(xs[i]);
         i += 1;
     }
@@ -41,29 +41,22 @@ fn list(xs: &[u16], n: usize) {
 
 // Why a link is there.
 fn why(k: u16) {
-    if k == 0 {
-        io::write_all(1, b" ring");
-        return;
+    match k {
+        0 => say(b" ring"),
+        1 => say(b" chain"),
+        2 => say(b" back"),
+        _ => say(b" unknown"),
     }
-    if k == 1 {
-        io::write_all(1, b" chain");
-        return;
-    }
-    if k == 2 {
-        io::write_all(1, b" back");
-        return;
-    }
-    io::write_all(1, b" unknown");
 }
 
 // A link that is one number.
 fn link(x: u16) {
-    io::write_all(1, b" ");
+    put(b' ');
     small(x / 16 % 16);
-    io::write_all(1, b"-");
+    put(b'-');
     small(x % 16);
     why(x / 256);
-    io::write_all(1, b",");
+    put(b',');
 }
 
 // The first n links.
@@ -81,9 +74,9 @@ fn links(made: [u16; 10], n: usize) {
 // A plan: s, t, q, p and the number of links, and the links.
 fn show_plan(told: [u16; 5], made: [u16; 10], count: usize) {
     list(&told, 5);
-    io::write_all(1, b":");
+    put(b':');
     if count == 0 {
-        io::write_all(1, b" no links,");
+        say(b" no links,");
         return;
     }
     links(made, count);
@@ -92,18 +85,18 @@ fn show_plan(told: [u16; 5], made: [u16; 10], count: usize) {
 // A skeleton: its arc count, and the bytes of its file.
 fn show_skeleton(told: [u16; 5], made: [u16; 10], count: usize) {
     list(&told, 1);
-    io::write_all(1, b":");
+    put(b':');
     list(&made, count);
-    io::write_all(1, b",");
+    put(b',');
 }
 
 // A refusal: its number and its place.
 fn show_refusal(told: [u16; 5]) {
-    io::write_all(1, b" refused ");
+    say(b" refused ");
     small(told[0]);
-    io::write_all(1, b" at ");
+    say(b" at ");
     small(told[1]);
-    io::write_all(1, b",");
+    put(b',');
 }
 
 // What came out.
@@ -122,7 +115,7 @@ fn show(o: Outcome) {
         show_refusal(told);
         return;
     }
-    io::write_all(1, b" accepted,");
+    say(b" accepted,");
 }
 
 // Prints a line, and answers 1 where the outcome differs from the row.
@@ -131,20 +124,20 @@ pub fn line(i: usize, call: &[u8], head: [u16; 10], made: [u16; 10], o: Outcome)
     ensures { λ r. ⌜ r ≤ 1 ⌝ }
 {
     label(i, head[0]);
-    io::write_all(1, call);
+    say(call);
     show(o);
     if outcome::wanted(o, head, made) {
-        io::write_all(1, b" as the table has it\n");
+        say(b" as the table has it\n");
         return 0;
     }
-    io::write_all(1, b" differs\n");
+    say(b" differs\n");
     1
 }
 
 // The last line.
 pub fn total(answers: usize, differ: usize) {
-    number(answers);
-    io::write_all(1, b" answers, ");
-    number(differ);
-    io::write_all(1, b" differ\n");
+    decimal(answers);
+    say(b" answers, ");
+    decimal(differ);
+    say(b" differ\n");
 }

@@ -23,7 +23,7 @@ use Rattle.arranged.proofs.ArrangedLaws.{arranged-kept}
 use Rattle.search.specs.Marking.{Laid}
 use Rattle.search.proofs.Course.{laid-same}
 use Rattle.workmap.specs.declared.Side.{Side}
-use Rattle.pairing.specs.Turn.{Along, Turnable, answered, Turned}
+use Rattle.turns.specs.Turn.{Along, Turnable, answered, Turned}
 use Rattle.pairing.specs.Pairs.{sources-in, sinks-in, reach-in, firsts, seconds}
 use Rattle.pairing.specs.Pairs.{Pairable, Others, Course, Paired}
 use Rattle.pairing.proofs.PairLaws.{

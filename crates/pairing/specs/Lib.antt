@@ -1,3 +1,2 @@
 -- What the contracts of the pairing say of lent work memory.
-pub mod Turn
 pub mod Pairs

@@ -2,7 +2,7 @@
 -- The side L says where everything stands; s and t count the sources and the sinks.
 --   Pairable w L s t     the sources and the sinks stand in w, and there is room for the pairs and the lone sources
 --   Course v w L s t i p the pairing has begun at v, and w holds it after the turns of i sources, with p pairs made
---   Underway w L s t i p the same for some v, with a source left
+--   Pairing-underway w L s t i p   the same for some v, with a source left
 --   Others v w L         what the pairing leaves as it was
 --   Ordering-stands w L r o      the ordering o stands in w, and r is the number of its pairs
 --   Paired v w L s t r   the pairing is done
@@ -19,7 +19,7 @@ use Rattle.rules.specs.Plan.{Couple, Ordering, pairing}
 use Rattle.memory.specs.Regions.{part, Holds}
 use Rattle.search.specs.Marking.{Laid}
 use Rattle.workmap.specs.declared.Side.{Side}
-use Rattle.pairing.specs.Turn.{Outside, All-below, Along}
+use Rattle.turns.specs.Turn.{Outside, All-below, Along}
 
 -- the sources that stand in the memory
 abbrev pub sources-in : List ℕ → Side → ℕ → List ℕ

@@ -1,74 +1,12 @@
 // Points 1 and 2 of the plan rule, in lent work memory: each source in turn takes the lowest sink that it reaches and
-// that is still unpaired, or stays unpaired. One search a source; a search takes no sink but the one that it pairs.
+// that is still unpaired, or stays unpaired. One search a source.
 use arranged::Found;
-use memory::fill;
 use memory::wide;
-use search::search;
-use workmap::RowsAt;
-use workmap::SearchAt;
+use turns::turn;
 use workmap::Side;
 ghost use mathlib.Core.List.{List};
-ghost use Prim.Native.Nat.{ℕ, _+_, _≤_, _<_};
-ghost use lib.ListN.{length, getD};
-ghost use Rattle.pairing.specs.Turn.{First-marked, Taken-out, Turnable, Turned};
+ghost use Prim.Native.Nat.{ℕ, _+_};
 ghost use Rattle.pairing.specs.Pairs.{Pairable, Course, Pairing-underway, Paired};
-
-// The first place in a list of zones, `count` of them from `at` on, whose zone has a mark.
-fn first_marked(work: &[u16], marks: usize, at: usize, count: usize) -> Found
-    requires { ⌜ at + count ≤ length (now work) ⌝ }
-    requires { ⌜ ((k : ℕ) → k < count → marks + getD (now work) (at + k) 0 < length (now work)) ⌝ }
-    ensures { λ r. ⌜ First-marked (now (work .entry)) marks at count r ⌝ }
-{
-    let mut i = 0;
-    while i < count {
-        let m = marks + wide(work[at + i]);
-        if work[m] != 0 {
-            return Found::At(i);
-        }
-        i += 1;
-    }
-    Found::Nothing
-}
-
-// Takes the place j out of a list of `count` zones from `at` on: those behind it move down by one.
-fn take_out(work: &mut [u16], at: usize, count: usize, j: usize)
-    requires { ⌜ (j < count) × (at + count ≤ length (now work)) ⌝ }
-    ensures { λ r. ⌜ Taken-out (now (work .entry)) (now (work .exit)) at count j ⌝ }
-{
-    let mut i = j + 1;
-    while i < count {
-        let z = work[at + i];
-        work[at + i - 1] = z;
-        i += 1;
-    }
-}
-
-// One source's turn: the first of the sinks left that a search from the source marks is taken out and answered. The
-// sinks left, `left` of them, stand from `sinks` on.
-fn turn(
-    work: &mut [u16],
-    rows: RowsAt,
-    at: SearchAt,
-    source: usize,
-    sinks: usize,
-    left: usize,
-) -> Found
-    requires { ⌜ Turnable (now work) rows at source sinks left ⌝ }
-    ensures { λ r. ⌜ Turned (now (work .entry)) (now (work .exit)) rows at source sinks left r ⌝ }
-{
-    fill(work, at.marks, rows.zones, 0);
-    search(work, rows, at, source);
-    match first_marked(work, at.marks, sinks, left) {
-        Found::Nothing => {
-            return Found::Nothing;
-        }
-        Found::At(j) => {
-            let z = wide(work[sinks + j]);
-            take_out(work, sinks, left, j);
-            return Found::At(z);
-        }
-    }
-}
 
 // The turn of the source i of the s sources, with p pairs made of them and the t sinks: source and sink go to the
 // pairs, or the source to those that stay unpaired. Answers the number of pairs.
@@ -103,11 +41,11 @@ pub fn pair(work: &mut [u16], at: Side, s: usize, t: usize) -> usize
     requires { ⌜ Pairable (now work) at s t ⌝ }
     ensures { λ r. ⌜ Paired (now (work .entry)) (now (work .exit)) at s t r ⌝ }
 {
-    let mut i = 0;
+    let mut k = 0;
     let mut p = 0;
-    while i < s {
-        p = settle(work, at, s, t, i, p);
-        i += 1;
+    while k < s {
+        p = settle(work, at, s, t, k, p);
+        k += 1;
     }
     p
 }

@@ -21,7 +21,7 @@ use Rattle.rules.specs.Calls.{network-tests, room-test, asked-work, handed, pla
 use Rattle.rules.specs.Promises.{Plan-promise}
 use Rattle.memory.specs.Regions.{part, Holds}
 use Rattle.theory.proofs.Files.Troubles.{passes, both-pass}
-use Rattle.intake.proofs.Fine.{fine}
+use Rattle.theory.proofs.Files.Accepting.{fine}
 use Rattle.workmap.specs.declared.Map.{Map}
 use Rattle.workmap.specs.Map.{map-of}
 use Rattle.memory.proofs.Cleared.{cleared-back}
@@ -73,7 +73,7 @@ module _ (n : ℕ) (ts hs from to why w : List ℕ) where
       Plan-promise n ts hs from to why w from to why w (plan-told (PlanAnswer.Refused t))
   plan-refused t e =
       record {
-        says = rw e refl;
+        told-is = rw e refl;
         from-left = rw e refl;
         to-left = rw e refl;
         why-left = rw e refl;
@@ -91,7 +91,7 @@ module _ (n : ℕ) (ts hs from to why w : List ℕ) where
       let ls : List Link = plan (handed n ts hs) in
       let asked : m .asked ≡ asked-work n (length ts) = ap (λ (x : Map). x .asked) made in
       record {
-        says = rw e (says (handed n ts hs) (L .figures));
+        told-is = rw e (says (handed n ts hs) (L .figures));
         from-left =
             rw e
             (f

@@ -1,3 +1,2 @@
--- Laws of PLAN's answer, and of what its promise means.
+-- Laws of PLAN's answer. What its promise means is in theory, under Demands.
 pub mod Answering
-pub mod Corollaries

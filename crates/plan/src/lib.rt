@@ -1,10 +1,10 @@
 // PLAN: the smallest set of links that makes a network strong, in three lent lists. The plan is laid out in lent work
 // memory and then copied out.
 use figures::answer_of;
-use intake::Tested;
+use handout::hand_out;
 use laying::lay;
 use memory::clear;
-use memory::copy_out;
+use probes::Tested;
 use rules::PlanAnswer;
 use workmap::map_of;
 ghost use Rattle.rules.specs.Answers.{plan-told};
@@ -24,15 +24,13 @@ pub fn plan(
         (now (to .entry)) (now (why .entry)) (now (work .entry)) (now (from .exit))
         (now (to .exit)) (now (why .exit)) (now (work .exit)) (plan-told r) ⌝ }
 {
-    let t = intake::plan(zones, tails, heads, from, to, why, work);
+    let t = admission::plan(zones, tails, heads, from, to, why, work);
     if let Tested::Refused(trouble) = t {
         return PlanAnswer::Refused(trouble);
     }
     let m = map_of(zones, tails.len());
     let r = lay(m, tails, heads, work);
-    copy_out(work, m.links.from, r.need, from);
-    copy_out(work, m.links.to, r.need, to);
-    copy_out(work, m.links.why, r.need, why);
+    hand_out(work, m.links, r.need, from, to, why);
     clear(work, m.asked);
     answer_of(r)
 }

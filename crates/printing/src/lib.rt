@@ -1,66 +1,72 @@
-// What the programs that run the calls share: labels, numbers, refusals and lists on standard output.
-ghost use Prim.Native.Nat.{_≤_};
-ghost use lib.ListN.{length};
+// What the programs that run the calls print with: bytes, numbers, answers and lists on standard output.
 use rules::Trouble;
 use rules::trouble_number;
 
-// The lesser of two numbers.
-pub fn least(a: usize, b: usize) -> usize
-    ensures { λ r. ⌜ (r ≤ a) × (r ≤ b) ⌝ }
-{
-    if a < b { a } else { b }
+// A byte.
+pub fn put(b: u8) {
+    let text = [b; 1];
+    io::write_all(1, &text);
 }
 
-// Where a label ends: at its first dot.
-fn end(text: &[u8]) -> usize
-    ensures { λ r. ⌜ r ≤ length (now (text .entry)) ⌝ }
-{
-    let mut i = 0;
-    while i < text.len() {
-        if text[i] == b'.' {
-            return i;
-        }
-        i += 1;
-    }
-    i
+// The end of a line.
+pub fn line_end() {
+    put(10);
 }
 
-// A label, up to its first dot: in a table all labels are of one length.
-pub fn label(text: &[u8]) {
-    let n = end(text);
-    io::write_all(1, &text[0..n]);
+// A number.
+pub fn decimal(n: usize) {
+    io::print_decimal(1, n as u64);
 }
 
 // A space and a number.
 pub fn number(n: usize) {
-    io::write_all(1, b" ");
-    io::print_decimal(1, n as u64);
+    put(b' ');
+    decimal(n);
 }
 
-// What a refusal says: its number and its place.
-pub fn trouble(t: Trouble) {
+// What an answer says that is no refusal: the number 0, the place 0, and its value.
+pub fn done(value: usize) {
+    number(0);
+    number(0);
+    number(value);
+}
+
+// What a refusal says: its number, its place, and no value.
+pub fn refused(t: Trouble) {
     let kind = t.kind;
-    let place = t.place;
     number(trouble_number(kind));
-    number(place);
+    number(t.place);
+    number(0);
 }
 
-// The elements of a list of 16-bit numbers.
+// A space and a number of 16 bits.
+fn small_number(n: u16) {
+    number(n as usize);
+}
+
+// A bar, and the elements of a list.
 pub fn list(xs: &[u16]) {
-    io::write_all(1, b" |");
+    put(b' ');
+    put(b'|');
     let mut i = 0;
     while i < xs.len() {
-        number(xs[i] as usize);
+        small_number(xs[i]);
         i += 1;
     }
 }
 
-// The elements of a list of bytes.
+// A space and a byte as a number.
+fn byte_number(b: u8) {
+    number(b as usize);
+}
+
+// A bar, and the elements of a list of bytes.
 pub fn bytes(xs: &[u8]) {
-    io::write_all(1, b" |");
+    put(b' ');
+    put(b'|');
     let mut i = 0;
     while i < xs.len() {
-        number(xs[i] as usize);
+        byte_number(xs[i]);
         i += 1;
     }
 }

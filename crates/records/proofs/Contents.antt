@@ -5,7 +5,7 @@
 -- Without a trouble both put the plan in front of what was lent; with one the answer carries no links.
 -- Assumes nothing.
 use mathlib.Core.Path.{_≡_, refl, sym, ap, subst, _∙_}
-use mathlib.Core.List.{List, [], _∷_, _++_, map}
+use mathlib.Core.List.{List, [], _∷_, map}
 use mathlib.Core.Option.{Option, none, some}
 use Prim.Native.Nat.{ℕ, min}
 use lib.ListN.{length, getD, take, drop, length-map}
@@ -20,7 +20,7 @@ use Rattle.rules.specs.Plan as Plan
 use Rattle.rules.specs.Calls.{handed, says, plan-trouble, records-trouble}
 use Rattle.rules.specs.Promises.{Plan-promise, Records-promise}
 use Rattle.theory.proofs.Planning.PlanCount.{plan-length}
-use Rattle.intake.proofs.Fine.{fine-proper}
+use Rattle.theory.proofs.Files.Accepting.{fine-proper}
 use Rattle.rules.specs.declared.Why.{Why}
 use Rattle.rules.specs.declared.Link.{Link}
 use Rattle.drafts.specs.Drafts.{need-of}
@@ -78,7 +78,7 @@ module _ (n : ℕ) (ts hs from to why w : List ℕ) (ls : List Link) (a b : Plan
   -- the last number that is said
   need-said :
       need-of a ≡ getD (says 5 (records-trouble n ts hs (length ls) w) (plan-values (handed n ts hs)) .values) 4 0
-  need-said = need-told a ∙ ap (λ (t : Told). getD (t .values) 4 0) (P .says)
+  need-said = need-told a ∙ ap (λ (t : Told). getD (t .values) 4 0) (P .told-is)
 
   -- the same columns, where the number of links is known
   same-at : (k : ℕ) → need-of a ≡ k → Same-columns k ls₁ from₂ to₂ why₂ →

@@ -1,5 +1,3 @@
 -- The steps of the two walks, and what the promise means.
-pub mod Turns
-pub mod Calls
 pub mod Contents
 pub mod Outcomes

@@ -41,7 +41,7 @@ pub records-as-plan : (n : ℕ) (ts hs from to why w : List ℕ) (ls : List Link
     Plan-promise n ts hs from to why w from₂ to₂ why₂ w₂ (plan-told b) →
     (a ≡ b) × (w₁ ≡ w₂) × Same-columns (need-of a) ls₁ from₂ to₂ why₂
 records-as-plan n ts hs from to why w ls {a} {b} shortest p q = (
-  plan-told-once a b (p .says ∙ sym (says-same n ts hs from to why w (length ls) shortest) ∙ sym (q .says)),
+  plan-told-once a b (p .told-is ∙ sym (says-same n ts hs from to why w (length ls) shortest) ∙ sym (q .told-is)),
   p .work-left ∙ sym (work-same n ts hs from to why w (length ls) shortest) ∙ sym (q .work-left),
   records-columns n ts hs from to why w ls a b shortest p q,
 )

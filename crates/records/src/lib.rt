@@ -9,8 +9,8 @@ ghost use Rattle.rules.specs.Answers.{plan-told};
 ghost use Rattle.rules.specs.Promises.{Records-promise};
 ghost use Rattle.drafts.specs.Drafts.{Draft-readable};
 use columns::link_at;
+use drafts::clear_draft;
 use drafts::draft;
-use drafts::finish;
 use drafts::need_of;
 use rules::Link;
 use rules::PlanAnswer;
@@ -27,7 +27,7 @@ fn link_of(work: &[u16], zones: usize, i: usize) -> Link
 }
 
 // Stores the first n links.
-fn fill(links: &mut [Link], work: &[u16], zones: usize, n: usize)
+fn fill_links(links: &mut [Link], work: &[u16], zones: usize, n: usize)
     requires { ⌜ (n ≤ length (now links)) × Draft-readable (now work) zones n ⌝ }
     ensures { λ _. ⌜ now (links .exit) ≡ filled (now (work .entry)) (links-at zones) (now (links .entry)) n ⌝ }
 {
@@ -50,6 +50,6 @@ pub fn plan_records(
         (now (work .entry)) (now (links .exit)) (now (work .exit)) (plan-told r) ⌝ }
 {
     let answer = draft(zones, tails, heads, links.len(), work);
-    fill(links, work, zones, need_of(answer));
-    finish(answer, zones, tails.len(), work)
+    fill_links(links, work, zones, need_of(answer));
+    clear_draft(answer, zones, tails.len(), work)
 }

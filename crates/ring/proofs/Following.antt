@@ -23,7 +23,8 @@ use Rattle.theory.proofs.Reaching.Components.{
 }
 use Rattle.theory.proofs.Skeletons.SkeletonLaws.{Follows, follows-true, true-follows}
 use Rattle.arranged.proofs.Zeros.{below?}
-use Rattle.crossings.specs.Named.{name-at, Named}
+use Rattle.outward.specs.Standing.{name-at}
+use Rattle.crossings.specs.Named.{Named}
 use Rattle.crossings.proofs.NamedLaws.{zone-in, in-zone, named-proper}
 use Rattle.ring.specs.Ring.{First-above, Ring-next}
 

@@ -8,8 +8,8 @@ use Prim.Native.Nat.{ℕ, _+_, _≤_, _<_}
 use native.Mathlib.Omega.{arith}
 use lib.ListN.{length, set, length-set}
 use lib.Seq.{drop-set-lt}
-use Rattle.crossings.specs.Named.{name-at, chosen-at, tops-at}
-use Rattle.crossings.proofs.MarkSet.{set-marked, set-kept, set-was}
+use Rattle.outward.specs.Standing.{name-at, chosen-at, tops-at}
+use Rattle.outward.proofs.MarkSet.{set-marked, set-kept, set-was}
 use Rattle.ring.specs.Ring.{Ringable, Ring-next, Ringed}
 
 module _ (w : List ℕ) (n a r : ℕ) (R : Ringable w n a) (ring : Ring-next (name-at w n) n a r) where

@@ -9,7 +9,7 @@ use mathlib.Core.List.{List}
 use Prim.Native.Nat.{ℕ, _+_, _≤_, _<_}
 use lib.ListN.{length, drop}
 use Rattle.arranged.specs.Marks.{Marked}
-use Rattle.crossings.specs.Named.{name-at, chosen-at, named-at, tops-at}
+use Rattle.outward.specs.Standing.{name-at, chosen-at, named-at, tops-at}
 
 -- the names lie in the memory, and a is a zone
 pub record Ringable (w : List ℕ) (n a : ℕ) : Type 0 where

@@ -3,7 +3,7 @@
 ghost use mathlib.Core.Path.{_≡_};
 ghost use Prim.Native.Nat.{_<_};
 ghost use Rattle.workmap.specs.Map.{map-of};
-ghost use Rattle.crossings.specs.Named.{name-at};
+ghost use Rattle.outward.specs.Standing.{name-at};
 ghost use Rattle.ring.specs.Ring.{Ringable, First-above, Ring-next, Ringed};
 use memory::wide;
 use workmap::Map;

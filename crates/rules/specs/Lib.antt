@@ -22,3 +22,4 @@ pub mod Calls
 pub mod Promises
 pub mod Text
 pub mod Cases
+pub mod Orders

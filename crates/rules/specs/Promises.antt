@@ -22,7 +22,7 @@ use Rattle.rules.specs.Calls.{records-trouble}
 
 -- READ: two lists are lent, for tails and heads
 pub record Read-promise (file ts hs ts' hs' : List ℕ) (told : Told) : Type 0 where
-  pub says : told ≡ found-says (file-at file (length ts) (length hs))
+  pub told-is : told ≡ found-says (file-at file (length ts) (length hs))
   pub tails : ts' ≡ found-tails (file-at file (length ts) (length hs)) ts
   pub heads : hs' ≡ found-heads (file-at file (length ts) (length hs)) hs
 
@@ -30,22 +30,22 @@ pub record Read-promise (file ts hs ts' hs' : List ℕ) (told : Told) : Type 0 w
 module _ (n : ℕ) (ts hs : List ℕ) where
   -- WRITE: a list of bytes is lent
   pub record Write-promise (file file' : List ℕ) (told : Told) : Type 0 where
-    pub says : told ≡ says 1 (write-trouble n ts hs file) (length (written n ts hs) ∷ [])
+    pub told-is : told ≡ says 1 (write-trouble n ts hs file) (length (written n ts hs) ∷ [])
     pub bytes : file' ≡ leaves (write-trouble n ts hs file) file (over (written n ts hs) file)
 
   -- STRONG: work memory is lent
   pub record Strong-promise (w w' : List ℕ) (told : Told) : Type 0 where
-    pub says : told ≡ says 1 (strong-trouble n ts hs w) (yes-number (strong (handed n ts hs)) ∷ [])
+    pub told-is : told ≡ says 1 (strong-trouble n ts hs w) (yes-number (strong (handed n ts hs)) ∷ [])
     pub work : w' ≡ leaves-work n ts hs w (strong-trouble n ts hs w)
 
   -- REACH, from zone a to zone b: work memory is lent
   pub record Reach-promise (a b : ℕ) (w w' : List ℕ) (told : Told) : Type 0 where
-    pub says : told ≡ says 1 (reach-trouble n ts hs a b w) (yes-number (reaches (handed n ts hs) a b) ∷ [])
+    pub told-is : told ≡ says 1 (reach-trouble n ts hs a b w) (yes-number (reaches (handed n ts hs) a b) ∷ [])
     pub work : w' ≡ leaves-work n ts hs w (reach-trouble n ts hs a b w)
 
   -- SKELETON: two lists, for tails and heads, and work memory are lent
   pub record Skeleton-promise (ots ohs w ots' ohs' w' : List ℕ) (told : Told) : Type 0 where
-    pub says : told ≡ says 1 (skeleton-trouble n ts hs ots ohs w) (length (skeleton (handed n ts hs)) ∷ [])
+    pub told-is : told ≡ says 1 (skeleton-trouble n ts hs ots ohs w) (length (skeleton (handed n ts hs)) ∷ [])
     pub tails :
         ots' ≡ leaves (skeleton-trouble n ts hs ots ohs w) ots (over (arc-tails (skeleton (handed n ts hs))) ots)
     pub heads :
@@ -54,7 +54,7 @@ module _ (n : ℕ) (ts hs : List ℕ) where
 
   -- PLAN: three lists, for the starts, the ends and the whys of links, and work memory are lent
   pub record Plan-promise (from to why w from' to' why' w' : List ℕ) (told : Told) : Type 0 where
-    pub says : told ≡ says 5 (plan-trouble n ts hs from to why w) (plan-values (handed n ts hs))
+    pub told-is : told ≡ says 5 (plan-trouble n ts hs from to why w) (plan-values (handed n ts hs))
     pub from-left :
         from' ≡ leaves (plan-trouble n ts hs from to why w) from (over (link-starts (plan (handed n ts hs))) from)
     pub to-left : to' ≡ leaves (plan-trouble n ts hs from to why w) to (over (link-ends (plan (handed n ts hs))) to)
@@ -63,7 +63,7 @@ module _ (n : ℕ) (ts hs : List ℕ) where
 
   -- PLAN over records: a list of records and work memory are lent
   pub record Records-promise (ls : List Link) (w : List ℕ) (ls' : List Link) (w' : List ℕ) (told : Told) : Type 0 where
-    pub says : told ≡ says 5 (records-trouble n ts hs (length ls) w) (plan-values (handed n ts hs))
+    pub told-is : told ≡ says 5 (records-trouble n ts hs (length ls) w) (plan-values (handed n ts hs))
     pub links-left :
         ls' ≡ leaves (records-trouble n ts hs (length ls) w) ls (over (map record-of (plan (handed n ts hs))) ls)
     pub work-left : w' ≡ leaves-work n ts hs w (records-trouble n ts hs (length ls) w)

@@ -4,7 +4,7 @@
 --   Turned-round m d  on it the network stands turned round, and the links stand in the map's columns turned back
 --   Rule-side m s t d for a network with s sources and t sinks: on d stands the network on which the rule runs, and
 --                     its links, put there, are the plan
---   Counted s t q p r r counts what the links are made of: an ordering with p pairs of s sources and t sinks, and q
+--   Tallied s t q p r r counts what the links are made of: an ordering with p pairs of s sources and t sinks, and q
 --                     components alone
 use mathlib.Core.Path.{_≡_}
 use mathlib.Core.Logic.{_⊎_}

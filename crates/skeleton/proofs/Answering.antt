@@ -44,7 +44,7 @@ module _ (n : ℕ) (ts hs ots ohs w : List ℕ) where
   -- SKELETON refuses
   pub skeleton-refused : (t : Trouble) → skeleton-trouble n ts hs ots ohs w ≡ some t →
       Skeleton-promise n ts hs ots ohs w ots ohs w (skeleton-told (SkeletonAnswer.Refused t))
-  skeleton-refused t e = record { says = rw e refl; tails = rw e refl; heads = rw e refl; work = rw e refl }
+  skeleton-refused t e = record { told-is = rw e refl; tails = rw e refl; heads = rw e refl; work = rw e refl }
 
   -- SKELETON answers
   pub skeleton-done : (r : ℕ) (ots' ohs' w' : List ℕ) → skeleton-trouble n ts hs ots ohs w ≡ none →
@@ -52,7 +52,7 @@ module _ (n : ℕ) (ts hs ots ohs w : List ℕ) where
       Skeleton-promise n ts hs ots ohs w ots' ohs' w' (skeleton-told (SkeletonAnswer.Done r))
   skeleton-done r ots' ohs' w' e S =
       record {
-        says = rw (e, S .count) refl;
+        told-is = rw (e, S .count) refl;
         tails = rw e (S .tails);
         heads = rw e (S .heads);
         work = rw e (S .work);

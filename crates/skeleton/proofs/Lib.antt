@@ -1,5 +1,4 @@
 -- Laws of the call `skeleton`.
-mod Puts
 mod Zone
 mod Zones
 mod Answering

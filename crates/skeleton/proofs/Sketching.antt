@@ -12,7 +12,7 @@ use Rattle.rules.specs.Lists.{over, cleared}
 use Rattle.rules.specs.Network.{Arc, network-of}
 use Rattle.rules.specs.Components.{name, is-name, names}
 use Rattle.rules.specs.Calls.{arcs-of, handed, asked-work}
-use Rattle.intake.proofs.Fine.{fine-few}
+use Rattle.theory.proofs.Files.Accepting.{fine-few}
 use Rattle.theory.proofs.Ground.Lists.{in-keep}
 use Rattle.theory.proofs.Ground.Ascending.{span-length}
 use Rattle.theory.proofs.Ground.Counting.{keep-length}
@@ -23,10 +23,12 @@ use Rattle.memory.proofs.Cleared.{cleared-back}
 use Rattle.workmap.specs.Map.{map-of, rows-at}
 use Rattle.arranged.specs.Ready.{Readyable, Readied}
 use Rattle.components.specs.Components.{Components}
-use Rattle.crossings.specs.Named.{Named, tops-at}
-use Rattle.skeleton.specs.Putting.{Arcs-fit, skeleton-part, Rows-put}
+use Rattle.outward.specs.Standing.{tops-at}
+use Rattle.crossings.specs.Named.{Named}
+use Rattle.putting.specs.Putting.{Arcs-fit}
+use Rattle.skeleton.specs.Zones.{skeleton-part, Rows-put}
 use Rattle.skeleton.specs.Promises.{Sketchable, Sketched}
-use Rattle.skeleton.proofs.Puts.{put-over}
+use Rattle.putting.proofs.Puts.{put-over}
 use Rattle.skeleton.proofs.Zones.{part-all, part-few}
 
 module _ (n : ℕ) (ts hs w w₁ : List ℕ) (R : Readyable (map-of n (length ts)) ts hs w)

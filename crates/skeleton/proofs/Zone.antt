@@ -23,11 +23,13 @@ use Rattle.theory.proofs.Skeletons.SkeletonRows.{pair-row}
 use Rattle.arranged.specs.Marks.{Marked}
 use Rattle.search.specs.Marking.{Clear}
 use Rattle.memory.proofs.Cleared.{cleared-length, cleared-behind, cleared-front, front-zero}
-use Rattle.crossings.specs.Named.{Named, Crossed, chosen-at, tops-at}
+use Rattle.outward.specs.Standing.{chosen-at, tops-at}
+use Rattle.crossings.specs.Named.{Named, Crossed}
 use Rattle.crossings.proofs.NamedLaws.{named-kept}
 use Rattle.ring.specs.Ring.{Ringable, Ringed}
 use Rattle.ring.proofs.Following.{follows-ring, ring-follows}
-use Rattle.skeleton.specs.Putting.{marked-arc, skeleton-row, Zone-marked}
+use Rattle.putting.specs.Putting.{marked-arc}
+use Rattle.skeleton.specs.Zones.{skeleton-row, Zone-marked}
 
 module _ (w : List ℕ) (n : ℕ) (ts hs : List ℕ) (m : ℕ) (N : Named w n ts hs m) where
   -- what is free lies in the memory

@@ -17,17 +17,9 @@ use Rattle.theory.proofs.Skeletons.SkeletonLeast.{skeleton-short}
 use Rattle.theory.proofs.Skeletons.SkeletonRows.{pair-row, rows-none, rows-next, rows-few, skeleton-rows}
 use Rattle.crossings.specs.Named.{Named}
 use Rattle.crossings.proofs.NamedLaws.{named-kept, named-proper}
-use Rattle.skeleton.specs.Putting.{
-  marked-arc,
-  Row-markable,
-  Arcs-fit,
-  Arcs-put,
-  skeleton-row,
-  skeleton-part,
-  Zone-marked,
-  Rows-put,
-}
-use Rattle.skeleton.proofs.Puts.{arc-put-none, put-then, put-long}
+use Rattle.putting.specs.Putting.{marked-arc, Row-markable, Arcs-fit, Arcs-put}
+use Rattle.skeleton.specs.Zones.{skeleton-row, skeleton-part, Zone-marked, Rows-put}
+use Rattle.putting.proofs.Puts.{arc-put-none, put-then, put-long}
 
 -- the arcs from all zones are the skeleton
 pub part-all : (n : ℕ) (ts hs : List ℕ) → skeleton (handed n ts hs) ≡ skeleton-part (handed n ts hs) n n

@@ -1,3 +1,3 @@
 -- What the call `skeleton` promises, and what its inner functions ask and leave.
-pub mod Putting
+pub mod Zones
 pub mod Promises

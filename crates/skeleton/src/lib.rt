@@ -1,73 +1,24 @@
 // SKELETON: the skeleton of a network, in two lent lists. For each zone in turn the heads of its arcs are marked in
 // the work memory, and then put out in ascending order.
 ghost use mathlib.Core.Path.{_≡_};
-ghost use mathlib.Core.List.{[], _∷_};
-ghost use Prim.Native.Nat.{_+_, _≤_, _<_};
+ghost use Prim.Native.Nat.{_≤_, _<_};
 ghost use lib.ListN.{length};
 ghost use Rattle.rules.specs.Answers.{skeleton-told};
 ghost use Rattle.rules.specs.Promises.{Skeleton-promise};
-ghost use Rattle.rules.specs.Lists.{keep, span};
-ghost use Rattle.rules.specs.Network.{_⟶_};
-ghost use Rattle.theory.proofs.Skeletons.SkeletonRows.{pair-row};
 ghost use Rattle.workmap.specs.Map.{map-of};
 ghost use Rattle.crossings.specs.Named.{Named};
-ghost use Rattle.skeleton.specs.Putting.{marked-arc, Row-markable, Arcs-fit, Arcs-put, Zone-marked, Rows-put};
+ghost use Rattle.skeleton.specs.Zones.{Zone-marked, Rows-put};
 ghost use Rattle.skeleton.specs.Promises.{Sketchable, Sketched};
 use arranged::ready;
 use components::name_all;
 use crossings::mark_crossings;
-use intake::Tested;
 use memory::clear;
+use probes::Tested;
+use putting::put_row;
 use ring::mark_ring;
 use rules::SkeletonAnswer;
 use workmap::Map;
-use workmap::asked_work;
 use workmap::map_of;
-
-// Puts the arc from `a` to `b` where `b` has a mark. Answers the next free place.
-fn put(
-    work: &[u16],
-    m: Map,
-    a: usize,
-    b: usize,
-    tails: &mut [u16],
-    heads: &mut [u16],
-    at: usize,
-) -> usize
-    requires { ⌜ Row-markable (now work) (m .zones) a ⌝ }
-    requires { ⌜ b < m .zones ⌝ }
-    requires { ⌜ Arcs-fit (now tails) (now heads) at (keep (marked-arc (now work) (m .zones)) ((a ⟶ b) ∷ [])) ⌝ }
-    requires { ⌜ m ≡ map-of (m .zones) (m .arcs) ⌝ }
-    ensures { λ r. ⌜ Arcs-put (now (tails .entry)) (now (heads .entry)) (now (tails .exit)) (now (heads .exit)) at
-        (keep (marked-arc (now (work .entry)) (m .zones)) ((a ⟶ b) ∷ [])) r ⌝ }
-{
-    let chosen = m.cross.chosen;
-    if work[chosen + b] == 0 {
-        return at;
-    }
-    tails[at] = a as u16;
-    heads[at] = b as u16;
-    at + 1
-}
-
-// Puts the arcs from `a` to the zones that have marks. Answers the next free place.
-fn put_row(work: &[u16], m: Map, a: usize, tails: &mut [u16], heads: &mut [u16], at: usize) -> usize
-    requires { ⌜ Row-markable (now work) (m .zones) a ⌝ }
-    requires { ⌜ Arcs-fit (now tails) (now heads) at
-        (keep (marked-arc (now work) (m .zones)) (pair-row (span 0 (m .zones)) a)) ⌝ }
-    requires { ⌜ m ≡ map-of (m .zones) (m .arcs) ⌝ }
-    ensures { λ r. ⌜ Arcs-put (now (tails .entry)) (now (heads .entry)) (now (tails .exit)) (now (heads .exit)) at
-        (keep (marked-arc (now (work .entry)) (m .zones)) (pair-row (span 0 (m .zones)) a)) r ⌝ }
-{
-    let zones = m.zones;
-    let mut b = 0;
-    let mut next = at;
-    while b < zones {
-        next = put(work, m, a, b, tails, heads, next);
-        b += 1;
-    }
-    next
-}
 
 // Marks the heads of the skeleton's arcs from the zone `a`.
 fn mark_zone(m: Map, tails: &[u16], heads: &[u16], work: &mut [u16], names: usize, a: usize)
@@ -128,7 +79,7 @@ fn sketch(
     ready(m, tails, heads, work);
     let names = name_all(work, m);
     let count = put_rows(m, tails, heads, work, names, from, to);
-    clear(work, asked_work(zones, tails.len()));
+    clear(work, m.asked);
     count
 }
 
@@ -145,7 +96,7 @@ pub fn skeleton(
         (now (to .entry)) (now (work .entry)) (now (from .exit)) (now (to .exit))
         (now (work .exit)) (skeleton-told r) ⌝ }
 {
-    let t = intake::skeleton(zones, tails, heads, from, to, work);
+    let t = admission::skeleton(zones, tails, heads, from, to, work);
     if let Tested::Refused(trouble) = t {
         return SkeletonAnswer::Refused(trouble);
     }

@@ -2,47 +2,43 @@
 // largest sizes, and every refusal. A line has the label, the number, the place, the arc count, the arcs that were
 // put, and how many elements of the work memory are not zero then. Of long lists it has how many elements were put,
 // and their sum.
-use printing::least;
+ghost use Prim.Native.Nat.{_<_};
+ghost use lib.ListN.{length};
 use printing::number;
 use printing::others;
-use printing::trouble;
+use printing::put;
 use rules::SkeletonAnswer;
-use rules::Trouble;
+use runtable::at;
+use runtable::front;
+use runtable::part;
 use skeleton::skeleton;
 
 // What the lent lists hold before: no zone has this number.
 const UNUSED: u16 = 65535;
 
-// What a refusal says: its number, its place, and no value.
-fn show_trouble(t: Trouble) {
-    trouble(t);
-    number(0);
-}
-
 // What the answer says.
-fn show_answer(answer: SkeletonAnswer) {
+fn show(answer: SkeletonAnswer) {
+    put(b':');
     match answer {
-        SkeletonAnswer::Done { arcs } => {
-            number(0);
-            number(0);
-            number(arcs);
-        }
-        SkeletonAnswer::Refused(t) => show_trouble(t),
+        SkeletonAnswer::Done { arcs } => printing::done(arcs),
+        SkeletonAnswer::Refused(t) => printing::refused(t),
     }
 }
 
-// The sum of the elements that were put, up to 4,096 of them.
+// A sum and one number more, cut to 32 bits before.
+fn more(sum: usize, x: u16) -> usize {
+    sum % 4294967296 + x as usize
+}
+
+// The sum of the elements that were put.
 fn sum(list: &[u16]) -> usize {
     let mut total = 0;
     let mut i = 0;
     while i < list.len() {
-        if 4096 <= i {
-            return total;
-        }
         if list[i] == UNUSED {
             return total;
         }
-        total += list[i] as usize;
+        total = more(total, list[i]);
         i += 1;
     }
     total
@@ -55,227 +51,147 @@ fn show_sum(list: &[u16]) {
 }
 
 // One arc.
-fn show_arc(tail: u16, head: u16) {
+fn show_arc(tail: u16, head: usize) {
     number(tail as usize);
-    io::write_all(1, b"-");
-    io::print_decimal(1, head as u64);
+    put(b'-');
+    printing::decimal(head);
 }
 
 // The arcs that were put.
 fn show_arcs(from: &[u16], to: &[u16]) {
     let mut i = 0;
     while i < from.len() {
-        if to.len() <= i {
-            return;
-        }
         if from[i] == UNUSED {
             return;
         }
-        show_arc(from[i], to[i]);
+        show_arc(from[i], at(to, i));
         i += 1;
     }
 }
 
 // The arcs that were put, or for long lists their number and their sums.
-fn show_lists(from: &[u16], to: &[u16]) {
-    if from.len() <= 16 {
+fn show_lists(length: usize, from: &[u16], to: &[u16]) {
+    if length <= 16 {
         show_arcs(from, to);
-        return;
-    }
-    show_sum(from);
-    show_sum(to);
-}
-
-// Asks SKELETON, and prints a line.
-fn ask(
-    label: &[u8],
-    zones: usize,
-    tails: &[u16],
-    heads: &[u16],
-    from: &mut [u16],
-    to: &mut [u16],
-    work: &mut [u16],
-) {
-    printing::label(label);
-    io::write_all(1, b":");
-    let answer = skeleton(zones, tails, heads, from, to, work);
-    show_answer(answer);
-    io::write_all(1, b";");
-    show_lists(from, to);
-    io::write_all(1, b";");
-    number(others(work, 0));
-    io::write_all(1, b"\n");
-}
-
-// Asks with lists of exactly 6 elements and work memory for 4 zones and 6 arcs, one element longer than asked.
-fn small(label: &[u8], zones: usize, tails: &[u16], heads: &[u16]) {
-    let mut from = [UNUSED; 6];
-    let mut to = [UNUSED; 6];
-    let mut work = [7u16; 83];
-    ask(label, zones, tails, heads, &mut from, &mut to, &mut work);
-}
-
-// What each row shows: document 01's case J, and the skeleton of its skeleton; small networks; each refusal, and lists
-// of any length.
-const LABELS: [[u8; 32]; 20] = [
-    *b"case J..........................",
-    *b"its skeleton....................",
-    *b"no arcs.........................",
-    *b"one zone........................",
-    *b"one arc, six times..............",
-    *b"repeats in any order............",
-    *b"one component of all zones......",
-    *b"its skeleton....................",
-    *b"two arcs beside each other......",
-    *b"one past another................",
-    *b"from a component to a lower one.",
-    *b"pair............................",
-    *b"no zones........................",
-    *b"too many zones..................",
-    *b"too many arcs...................",
-    *b"tail out of range...............",
-    *b"head out of range...............",
-    *b"self arc........................",
-    *b"room for the work...............",
-    *b"room for the arcs...............",
-];
-
-// Each row's network: its zones, how many tails and heads there are, and those. 4,097 arcs are all from 0 to 1.
-const NETWORKS: [[u16; 17]; 20] = [
-    [4, 6, 6, 0, 1, 0, 2, 2, 0, 0, 1, 2, 2, 1, 3, 3, 0],
-    [4, 4, 4, 0, 1, 1, 2, 0, 0, 0, 1, 2, 3, 1, 0, 0, 0],
-    [4, 0, 0, 0, 0, 0, 0, 0, 0, 0, 0, 0, 0, 0, 0, 0, 0],
-    [1, 0, 0, 0, 0, 0, 0, 0, 0, 0, 0, 0, 0, 0, 0, 0, 0],
-    [2, 6, 6, 0, 0, 0, 0, 0, 0, 0, 1, 1, 1, 1, 1, 1, 0],
-    [3, 6, 6, 2, 0, 2, 0, 1, 2, 0, 1, 2, 1, 2, 0, 1, 0],
-    [4, 4, 4, 3, 1, 0, 2, 0, 0, 0, 1, 0, 2, 3, 0, 0, 0],
-    [4, 4, 4, 0, 1, 2, 3, 0, 0, 0, 1, 2, 3, 0, 0, 0, 0],
-    [4, 4, 4, 0, 0, 1, 2, 0, 0, 0, 1, 2, 3, 3, 0, 0, 0],
-    [4, 5, 5, 0, 0, 1, 0, 3, 0, 0, 3, 1, 3, 2, 2, 0, 0],
-    [4, 4, 4, 2, 3, 3, 1, 0, 0, 0, 3, 2, 1, 0, 0, 0, 0],
-    [4, 2, 1, 0, 1, 0, 0, 0, 0, 0, 1, 0, 0, 0, 0, 0, 0],
-    [0, 0, 0, 0, 0, 0, 0, 0, 0, 0, 0, 0, 0, 0, 0, 0, 0],
-    [1025, 0, 0, 0, 0, 0, 0, 0, 0, 0, 0, 0, 0, 0, 0, 0, 0],
-    [2, 4097, 4097, 0, 0, 0, 0, 0, 0, 0, 0, 0, 0, 0, 0, 0, 0],
-    [3, 2, 2, 0, 3, 0, 0, 0, 0, 0, 1, 1, 0, 0, 0, 0, 0],
-    [3, 2, 2, 0, 1, 0, 0, 0, 0, 0, 1, 3, 0, 0, 0, 0, 0],
-    [3, 3, 3, 0, 1, 2, 0, 0, 0, 0, 1, 2, 2, 0, 0, 0, 0],
-    [5, 2, 2, 0, 1, 0, 0, 0, 0, 0, 1, 2, 0, 0, 0, 0, 0],
-    [4, 7, 7, 0, 0, 0, 0, 0, 0, 0, 1, 1, 1, 1, 1, 1, 1],
-];
-
-// A row.
-fn row(label: [u8; 32], given: [u16; 17]) {
-    let zones = given[0] as usize;
-    if given[1] == 4097 {
-        small(&label, zones, &[0; 4097], &[1; 4097]);
-        return;
-    }
-    let a = least(given[1] as usize, 7);
-    let b = least(given[2] as usize, 7);
-    let all = &given[..];
-    small(&label, zones, &all[3..3 + a], &all[10..10 + b]);
-}
-
-// All rows.
-fn rows() {
-    let mut i = 0;
-    while i < 20 {
-        row(LABELS[i], NETWORKS[i]);
-        i += 1;
+    } else {
+        show_sum(from);
+        show_sum(to);
     }
 }
 
-// Lists that are too short by one, though the skeleton would fit.
-fn rooms() {
-    let mut short = [UNUSED; 1];
-    let mut long = [UNUSED; 2];
-    let mut work = [7u16; 38];
-    let tails: &[u16] = &[0, 0];
-    let heads: &[u16] = &[1, 1];
-    ask(
-        b"room for the tails",
-        2,
-        tails,
-        heads,
-        &mut short,
-        &mut long,
-        &mut work,
-    );
-    ask(
-        b"room for the heads",
-        2,
-        tails,
-        heads,
-        &mut long,
-        &mut short,
-        &mut work,
-    );
-    let mut enough = [UNUSED; 2];
-    ask(
-        b"room enough",
-        2,
-        tails,
-        heads,
-        &mut enough,
-        &mut long,
-        &mut work,
-    );
+// The arcs that were put, and how many elements of the work memory are not zero.
+fn show_rest(given: &[u16], from: &[u16; 4096], to: &[u16; 4096], work: &[u16; 28672]) {
+    put(b';');
+    show_lists(at(given, 2), from, to);
+    put(b';');
+    number(others(part(work, 0, at(given, 4)), 0));
+    printing::line_end();
 }
 
-// Arc i goes from i, around 1,020 zones, to a zone 1 to 5 further on.
-fn fill_path(tails: &mut [u16], heads: &mut [u16]) {
-    let mut i = 0;
-    while i < tails.len() {
-        if heads.len() <= i {
-            return;
-        }
-        if 4096 <= i {
-            return;
-        }
-        tails[i] = (i % 1020) as u16;
-        heads[i] = (i % 1020 + i / 1020 + 1) as u16;
-        i += 1;
-    }
-}
-
-// Arc i goes from i, around 1,024 zones, to the next.
-fn fill_ring(tails: &mut [u16], heads: &mut [u16]) {
-    let mut i = 0;
-    while i < tails.len() {
-        if heads.len() <= i {
-            return;
-        }
-        tails[i] = (i % 1024) as u16;
-        heads[i] = ((i + 1) % 1024) as u16;
-        i += 1;
-    }
-}
-
-// 1,024 zones and 4,096 arcs.
-fn largest(label: &[u8], tails: &[u16], heads: &[u16]) {
+// Asks SKELETON, and prints the line after its label.
+fn ask(given: &[u16], tails: &[u16], heads: &[u16]) {
     let mut from = [UNUSED; 4096];
     let mut to = [UNUSED; 4096];
     let mut work = [7u16; 28672];
-    ask(label, 1024, tails, heads, &mut from, &mut to, &mut work);
+    show(skeleton(
+        at(given, 1),
+        tails,
+        heads,
+        front(&mut from, at(given, 2)),
+        front(&mut to, at(given, 3)),
+        front(&mut work, at(given, 4)),
+    ));
+    show_rest(given, &from, &to, &work);
 }
 
-// The largest networks.
-fn large() {
-    let mut tails = [0u16; 4096];
-    let mut heads = [0u16; 4096];
-    fill_path(&mut tails, &mut heads);
-    largest(b"1,024 zones in a path, with short cuts", &tails, &heads);
-    fill_ring(&mut tails, &mut heads);
-    largest(
-        b"1,024 zones in a ring, each arc four times",
-        &tails,
-        &heads,
-    );
+// Arc i of a largest network. In the path it goes from i, around 1,020 zones (0), to a zone 1 to 5 further on (1); in
+// the ring from i, around 1,024 zones (2), to the next (3).
+fn end(which: usize, i: usize) -> u16 {
+    let zone = match which {
+        0 => i % 1020,
+        1 => i % 1020 + i / 1020 % 1024 + 1,
+        2 => i % 1024,
+        _ => i % 1024 + 1,
+    };
+    (zone % 1024) as u16
 }
 
+// The ends of 4,096 arcs.
+fn ends(which: usize) -> [u16; 4096] {
+    let mut list = [0u16; 4096];
+    let mut i = 0;
+    while i < 4096 {
+        list[i] = end(which, i);
+        i += 1;
+    }
+    list
+}
+
+// A largest network.
+fn largest(given: &[u16]) {
+    let tails = ends(at(given, 7));
+    let heads = ends(at(given, 7) % 4 + 1);
+    ask(given, &tails, &heads);
+}
+
+// A row's network.
+fn run(given: &[u16; 21]) {
+    match at(given, 5) {
+        4096 => largest(given),
+        4097 => ask(given, &[0; 4097], &[1; 4097]),
+        n => ask(given, part(given, 7, n), part(given, 14, at(given, 6))),
+    }
+}
+
+// A row.
+fn row(text: &[u8], from: usize) -> usize
+    requires { ⌜ from < length (now text) ⌝ }
+    ensures { λ r. ⌜ from < r ⌝ }
+{
+    let mut given = [0; 21];
+    let next = runtable::row(text, from, &mut given);
+    run(&given);
+    next
+}
+
+// All rows.
+fn rows(text: &[u8]) {
+    let mut from = 0;
+    while from < text.len() {
+        from = row(text, from);
+    }
+}
+
+// Document 01's case J, and the skeleton of its skeleton; small networks; each refusal, and lists of any length; and
+// the largest networks. A row has the zones; the lengths of the two lists and of the work memory that are lent; how
+// many tails and heads there are, and those, seven places for each. 4,097 arcs are all from 0 to 1; 4,096 are the path
+// (0) or the ring (2).
 fn main() {
-    rows();
-    rooms();
-    large();
+    rows(
+        b"case J: 4 6 6 83 6 6 0 1 0 2 2 0 0 1 2 2 1 3 3;\
+          its skeleton: 4 6 6 83 4 4 0 1 1 2 0 0 0 1 2 3 1;\
+          no arcs: 4 6 6 83 0 0;\
+          one zone: 1 6 6 83 0 0;\
+          one arc, six times: 2 6 6 83 6 6 0 0 0 0 0 0 0 1 1 1 1 1 1;\
+          repeats in any order: 3 6 6 83 6 6 2 0 2 0 1 2 0 1 2 1 2 0 1;\
+          one component of all zones: 4 6 6 83 4 4 3 1 0 2 0 0 0 1 0 2 3;\
+          its skeleton: 4 6 6 83 4 4 0 1 2 3 0 0 0 1 2 3 0;\
+          two arcs beside each other: 4 6 6 83 4 4 0 0 1 2 0 0 0 1 2 3 3;\
+          one past another: 4 6 6 83 5 5 0 0 1 0 3 0 0 3 1 3 2 2;\
+          from a component to a lower one: 4 6 6 83 4 4 2 3 3 1 0 0 0 3 2 1 0;\
+          pair: 4 6 6 83 2 1 0 1 0 0 0 0 0 1;\
+          no zones: 0 6 6 83 0 0;\
+          too many zones: 1025 6 6 83 0 0;\
+          too many arcs: 2 6 6 83 4097 4097;\
+          tail out of range: 3 6 6 83 2 2 0 3 0 0 0 0 0 1 1;\
+          head out of range: 3 6 6 83 2 2 0 1 0 0 0 0 0 1 3;\
+          self arc: 3 6 6 83 3 3 0 1 2 0 0 0 0 1 2 2;\
+          room for the work: 5 6 6 83 2 2 0 1 0 0 0 0 0 1 2;\
+          room for the arcs: 4 6 6 83 7 7 0 0 0 0 0 0 0 1 1 1 1 1 1 1;\
+          room for the tails: 2 1 2 38 2 2 0 0 0 0 0 0 0 1 1;\
+          room for the heads: 2 2 1 38 2 2 0 0 0 0 0 0 0 1 1;\
+          room enough: 2 2 2 38 2 2 0 0 0 0 0 0 0 1 1;\
+          1,024 zones in a path, with short cuts: 1024 4096 4096 28672 4096 4096 0;\
+          1,024 zones in a ring, each arc four times: 1024 4096 4096 28672 4096 4096 2;",
+    );
 }

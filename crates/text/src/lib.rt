@@ -9,7 +9,7 @@ ghost use Rattle.text.specs.Texts.{head-text, plan-text, refusal-text, P
 use buffer::put_bytes;
 use buffer::put_labelled;
 use buffer::put_two;
-use lines::put_links;
+use lines::put_lines;
 use rules::PlanAnswer;
 use rules::Trouble;
 use rules::trouble_number;
@@ -38,7 +38,7 @@ fn put_head(out: &mut [u8], at: usize, f: Figures) -> usize
 }
 
 // Puts all lines of a plan, the line "done" last.
-fn put_plan(out: &mut [u8], at: usize, f: Figures, from: &[u16], to: &[u16], why: &[u16]) -> usize
+fn say_plan(out: &mut [u8], at: usize, f: Figures, from: &[u16], to: &[u16], why: &[u16]) -> usize
     requires { ⌜ (f .need ≤ length (now from)) × ((f .need ≤ length (now to)) × (f .need ≤ length (now why))) ⌝ }
     requires { ⌜ at + 200 + 18 * f .need ≤ length (now out) ⌝ }
     ensures { λ r. ⌜ Written (now (out .entry)) at
@@ -46,12 +46,12 @@ fn put_plan(out: &mut [u8], at: usize, f: Figures, from: &[u16], to: &[u16], why
         r (now (out .exit)) ⌝ }
 {
     let a = put_head(out, at, f);
-    let b = put_links(out, a, from, to, why, f.need);
+    let b = put_lines(out, a, from, to, why, f.need);
     put_bytes(out, b, b"done\n")
 }
 
 // Puts the one line of a refusal.
-fn put_refusal(out: &mut [u8], at: usize, number: usize, place: usize) -> usize
+fn say_refusal(out: &mut [u8], at: usize, number: usize, place: usize) -> usize
     requires { ⌜ at + 60 ≤ length (now out) ⌝ }
     ensures { λ r. ⌜ Written (now (out .entry)) at (refusal-text number place) r (now (out .exit)) ⌝ }
 {
@@ -66,7 +66,7 @@ pub fn refuse(t: Trouble, out: &mut [u8]) -> usize
 {
     let kind = t.kind;
     let place = t.place;
-    put_refusal(out, 0, trouble_number(kind), place)
+    say_refusal(out, 0, trouble_number(kind), place)
 }
 
 // Puts what is printed for an answer of PLAN over the lists that it left, and answers the length of it.
@@ -102,7 +102,7 @@ pub fn put_answer(
                 pairs: pairs,
                 need: need,
             };
-            return put_plan(out, 0, f, from, to, why);
+            return say_plan(out, 0, f, from, to, why);
         }
     }
 }

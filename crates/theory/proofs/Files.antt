@@ -2,6 +2,7 @@
 pub mod Readings
 pub mod NumberLaws
 pub mod FileLaws
+pub mod Longest
 pub mod FileCut
 pub mod CutShort
 pub mod AnswerLaws

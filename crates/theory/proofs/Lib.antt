@@ -1,6 +1,7 @@
--- Every theorem about the definitions of `rules`, in five folders.
+-- Every theorem about the definitions of `rules`, in six folders.
 pub mod Ground
 pub mod Reaching
 pub mod Planning
 pub mod Skeletons
 pub mod Files
+pub mod Demands

@@ -3,3 +3,8 @@ pub mod Lending
 pub mod LocalArray
 pub mod CountedLoop
 pub mod Calling
+pub mod Locals
+pub mod Keeping
+pub mod Stepping
+pub mod Signing
+pub mod Turning

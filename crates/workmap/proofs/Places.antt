@@ -69,12 +69,6 @@ pub record Searches-placed (m : Map) (n k : ℕ) : Type 0 where
   pub back-marks : m .back .marks ≡ 2 * n
   pub back-queue : m .back .queue ≡ 3 * n
 
--- where a map has the finishing order
-pub record Order-placed (m : Map) (n k : ℕ) : Type 0 where
-  pub seen : m .order .seen ≡ 9 * n
-  pub next : m .order .next ≡ 10 * n
-  pub order : m .order .order ≡ 11 * n
-
 -- where a map has the components
 pub record Names-placed (m : Map) (n k : ℕ) : Type 0 where
   pub tops : m .names .tops ≡ 4 * n
@@ -141,10 +135,6 @@ module _ {m : Map} {n k : ℕ} (e : m ≡ map-of n k) where
         back-marks = omega arith;
         back-queue = omega arith;
       }
-
-  -- the map of n zones and k arcs has the finishing order there
-  pub order-placed : Order-placed m n k
-  order-placed = rw e record { seen = omega arith; next = omega arith; order = omega arith }
 
   -- the map of n zones and k arcs has the components there
   pub names-placed : Names-placed m n k

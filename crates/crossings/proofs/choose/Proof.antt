@@ -2,12 +2,12 @@
 -- of the names. Assumes nothing.
 use borrow.Author.Needs.{needs}
 use native.Mathlib.Omega.{arith}
-use Prim.Native.Nat.{_+_, _≤_, _<_, _-_}
-use mathlib.Core.Path.{_≡_}
-use lib.ListN.{length}
+use Prim.Native.Nat.{ℕ, _+_, _≤_, _<_, _-_}
+use mathlib.Core.Path.{_≡_, subst}
+use lib.ListN.{length, getD}
 use Rattle.workmap.proofs.Places.{names-placed}
 use Rattle.crossings.specs.Choosing.{Choosing}
-use Rattle.crossings.specs.Named.{top-at}
+use Rattle.outward.specs.Standing.{top-at}
 use Rattle.crossings.proofs.Trying.{choosing-none, choosing-ready, choosing-turn}
 use Rattle.crossings.proofs.choose.Statement.{statement}
 use Rattle.crossings.proofs.choose.Tie as tie
@@ -32,7 +32,10 @@ next-is : (c : tie.After-wide Inv-loop μ-loop) →
     c .wide .result
     ≡ top-at (c .before .before .before .loop .work) (c .before .before .before .before .before .args .m .zones)
     (c .before .before .before .loop .k)
-next-is c = rw (names-placed (c .before .before .before .before .before .pre .1) .tops) at (c .wide .ensures)
+next-is c =
+    let l = c .before .before .before .loop in
+    let s = c .before .before .before .before .before in
+    subst (λ (x : ℕ). c .wide .result ≡ getD (l .work) (x + l .k) 0) (names-placed (s .pre .1) .tops) (c .wide .ensures)
 
 loop-holds : tie.Need-loop-holds Inv-loop μ-loop
 loop-holds c =

@@ -7,8 +7,8 @@ use lib.ListN.{length}
 use Rattle.workmap.specs.declared.Map.{Map}
 use Rattle.workmap.specs.Map.{map-of}
 use Rattle.workmap.proofs.Places.{names-placed}
-use Rattle.intake.proofs.Fine.{fine-few}
-use Rattle.crossings.specs.Named.{name-at}
+use Rattle.theory.proofs.Files.Accepting.{fine-few}
+use Rattle.outward.specs.Standing.{name-at}
 use Rattle.crossings.proofs.Crossing.{crossed-none, crossed-direct, crossed-choose, crossed-all}
 use Rattle.crossings.proofs.mark_crossings.Statement.{statement}
 use Rattle.crossings.proofs.mark_crossings.Tie as tie

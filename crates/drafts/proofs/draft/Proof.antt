@@ -4,30 +4,26 @@ use borrow.Author.Needs.{needs}
 use mathlib.Core.Path.{_≡_, sym, ap, _∙_}
 use mathlib.Core.Option.{none}
 use Rattle.rules.specs.Calls.{records-trouble}
-use Rattle.intake.specs.Tested.{tested-trouble}
-use Rattle.intake.proofs.Chains.{found-on}
-use Rattle.intake.proofs.Fine.{counted, fine-few}
+use Rattle.probes.specs.Tested.{tested-trouble}
+use Rattle.theory.proofs.Files.Accepting.{fine-few}
 use Rattle.drafts.proofs.Answering.{drafted-refused, tests-ready, drafted-done}
 use Rattle.drafts.proofs.draft.Statement.{statement}
 use Rattle.drafts.proofs.draft.Tie as tie
 
 -- the tests were made
 abbrev Tried : Type 0
-Tried = tie.After-room
+Tried = tie.After-records
 
 -- the function's entry
 abbrev entry : Tried → tie.Start
-entry c = c .before .before .before .before .before .before
+entry c = c .before .before .before .before .before
 
 -- what the tests say is what was found
 found : (c : Tried) →
     records-trouble (entry c .args .zones) (entry c .args .tails .now) (entry c .args .heads .now)
     (entry c .args .room) (entry c .args .work .now)
-    ≡ tested-trouble (c .room .result)
-unfolding records-trouble
-found c =
-    let d = c .before in
-    sym (found-on (d .before .network .ensures) (found-on (d .work .ensures) (c .room .ensures)) .first)
+    ≡ tested-trouble (c .records .result)
+found c = sym (c .records .ensures)
 
 -- the tests found no trouble
 abbrev Here : Type 0
@@ -41,14 +37,8 @@ none-here : (c : Here) →
     ≡ none
 none-here c = found (c .before .before) ∙ ap tested-trouble (c .enum-told .given .1)
 
-network-requires : tie.Need-network-requires
-network-requires c κs = search needs
-
-work-requires : tie.Need-work-requires
-work-requires c κs = counted _ _ _ (c .network .ensures)
-
-room-requires : tie.Need-room-requires
-room-requires c κs = search needs
+records-requires : tie.Need-records-requires
+records-requires c κs = search needs
 
 enum-known-t : tie.Need-enum-known-t
 enum-known-t c = search needs
@@ -69,6 +59,16 @@ map-of-requires c κs =
     let f = tests-ready (a .zones) (a .tails .now) (a .heads .now) (a .room) (a .work .now) (none-here c) .0 .fine in
     (f .accepted .zones-most, fine-few f)
 
+returns-2 : tie.Need-returns-2
+returns-2 c =
+    let d = c .before .before .before in
+    let m = d .before .before in
+    let e = m .before in
+    let a = entry (e .before .before) .args in
+    drafted-done (a .zones) (a .tails .now) (a .heads .now) (a .room) (a .work .now) (m .map-of .result)
+    (d .lay .last .1 .1 .1 .0) (d .lay .result) (c .answer-of .result) (m .map-of .ensures) (none-here e)
+    (d .lay .ensures) (c .answer-of .ensures)
+
 lay-requires : tie.Need-lay-requires
 lay-requires c κs =
     let m = c .before in
@@ -82,28 +82,20 @@ answer-of-requires c κs = search needs
 same-length : tie.Need-same-length
 same-length c = search needs
 
-returns-2 : tie.Need-returns-2
-returns-2 c =
-    let d = c .before .before .before in
-    let m = d .before .before in
-    let e = m .before in
-    let a = entry (e .before .before) .args in
-    drafted-done (a .zones) (a .tails .now) (a .heads .now) (a .room) (a .work .now) (m .map-of .result)
-    (d .lay .last .1 .1 .1 .0) (d .lay .result) (c .answer-of .result) (m .map-of .ensures) (none-here e)
-    (d .lay .ensures) (c .answer-of .ensures)
+same-length-2 : tie.Need-same-length-2
+same-length-2 c = search needs
 
 pub draft-spec : {M : Type 1} → statement M
 draft-spec =
     tie.close
     (tie.spec
-    network-requires
-    work-requires
-    room-requires
+    records-requires
     enum-known-t
+    same-length
     returns
     enum-told
     map-of-requires
     lay-requires
     answer-of-requires
-    same-length
+    same-length-2
     returns-2)

@@ -13,48 +13,49 @@ use Rattle.filenumbers.proofs.third.Tie as tie
 add-here : tie.Need-add-here
 add-here c = search needs
 
-refused-requires : tie.Need-refused-requires
-refused-requires c κs = search needs
+number-refused-requires : tie.Need-number-refused-requires
+number-refused-requires c κs = search needs
 
 returns : tie.Need-returns
 unfolding third-group
-returns c = ap number-reading (c .refused .ensures) ∙ simp (le-leb _ _ (c .before .if1 .taken))
+returns c = ap number-reading (c .number-refused .ensures) ∙ simp (le-leb _ _ (c .before .if1 .taken))
 
 shared-slice-read-b : tie.Need-shared-slice-read-b
 shared-slice-read-b c = search needs
 
-refused-requires-2 : tie.Need-refused-requires-2
-refused-requires-2 c κs = search needs
+number-refused-requires-2 : tie.Need-number-refused-requires-2
+number-refused-requires-2 c κs = search needs
 
-wide-requires : tie.Need-wide-requires
-wide-requires c κs = search needs
+cast-t14 : tie.Need-cast-t14
+cast-t14 c = search needs
 
-mul-t16 : tie.Need-mul-t16
-mul-t16 c = search needs
+mul-t15 : tie.Need-mul-t15
+mul-t15 c = search needs
+
+add-t16 : tie.Need-add-t16
+add-t16 c = search needs
 
 add-t17 : tie.Need-add-t17
 add-t17 c = search needs
 
-add-t18 : tie.Need-add-t18
-add-t18 c = search needs
-
-refused-requires-3 : tie.Need-refused-requires-3
-refused-requires-3 c κs = search needs
-
-returns-2 : tie.Need-returns-2
-unfolding third-group
-returns-2 c =
-    ap number-reading (c .refused2 .ensures)
-    ∙ simp (lt-leb _ _ (c .before .before .before .if1 .left), eq-eqb _ _ (c .before .match .keys1))
+number-refused-requires-3 : tie.Need-number-refused-requires-3
+number-refused-requires-3 c κs = search needs
 
 returns-3 : tie.Need-returns-3
 unfolding third-group
 returns-3 c =
-    let l = c .before .before .before .before in
+    let l = c .before .before .before in
     let a = l .before .before .args in
     let b : ℕ = getD (a .s .now) (a .start + 2) 0 in
-    let small = lt-ltb b 128 (omega (arith, c .before .if2 .taken)) in
-    simp (lt-leb _ _ (l .if1 .left), ne-eqb _ _ (c .before .before .match .rest .1), small, c .wide .ensures .0)
+    let small = lt-ltb b 128 (omega (arith, c .if2 .taken)) in
+    let some = ne-eqb b 0 (c .before .match .rest .1) in
+    simp (lt-leb _ _ (l .if1 .left), some, small)
+
+returns-2 : tie.Need-returns-2
+unfolding third-group
+returns-2 c =
+    ap number-reading (c .number-refused2 .ensures)
+    ∙ simp (lt-leb _ _ (c .before .before .before .if1 .left), eq-eqb _ _ (c .before .match .keys1))
 
 returns-4 : tie.Need-returns-4
 unfolding third-group
@@ -63,7 +64,7 @@ returns-4 c =
     let a = l .before .before .args in
     let b : ℕ = getD (a .s .now) (a .start + 2) 0 in
     let large = le-ltb b 128 (omega (arith, c .before .if2 .left)) in
-    ap number-reading (c .refused3 .ensures)
+    ap number-reading (c .number-refused3 .ensures)
     ∙ simp (lt-leb _ _ (l .if1 .left), ne-eqb _ _ (c .before .before .match .rest .1), large)
 
 pub third-spec : {M : Type 1} → statement M
@@ -71,15 +72,15 @@ third-spec =
     tie.close
     (tie.spec
     add-here
-    refused-requires
+    number-refused-requires
     returns
     shared-slice-read-b
-    refused-requires-2
-    wide-requires
-    mul-t16
+    number-refused-requires-2
+    cast-t14
+    mul-t15
+    add-t16
     add-t17
-    add-t18
-    refused-requires-3
+    number-refused-requires-3
     returns-2
     returns-3
     returns-4)

@@ -4,7 +4,7 @@ use native.Mathlib.Omega.{arith}
 use Prim.Native.Nat.{_+_}
 use mathlib.Core.Path.{_≡_, refl, _∙_}
 use lib.ListN.{getD, length-set}
-use Rattle.finishing.proofs.Keeping.{order-kept-then, ready-kept, spans}
+use Rattle.descent.proofs.Keeping.{order-kept-then, ready-kept, spans}
 use Rattle.finishing.proofs.Start.{start-kept, start-marked, start-state}
 use borrow.Author.Needs.{needs}
 use Rattle.finishing.proofs.begin.Statement.{statement}

@@ -6,8 +6,8 @@ use Prim.Native.Nat.{ℕ, _+_, _≤_, _<_, _-_}
 use mathlib.Core.Logic.{inl, inr}
 use Rattle.arranged.specs.Marks.{Marked}
 use Rattle.arranged.proofs.Zeros.{same?}
-use Rattle.finishing.specs.Memory.{State, Order-kept}
-use Rattle.finishing.proofs.Keeping.{kept-none, order-kept-then, ready-kept}
+use Rattle.descent.specs.Memory.{State, Order-kept}
+use Rattle.descent.proofs.Keeping.{kept-none, order-kept-then, ready-kept}
 use Rattle.finishing.proofs.Start.{all-ended}
 use Rattle.finishing.proofs.begin_all.Statement.{statement}
 use Rattle.finishing.proofs.begin_all.Tie as tie

@@ -4,8 +4,8 @@ use borrow.Author.Needs.{needs}
 use native.Mathlib.Omega.{arith}
 use Prim.Native.Nat.{_-_}
 use mathlib.Core.Path.{_≡_, refl}
-use Rattle.finishing.specs.Memory.{State, Order-kept}
-use Rattle.finishing.proofs.Keeping.{kept-none, order-kept-then, ready-kept}
+use Rattle.descent.specs.Memory.{State, Order-kept}
+use Rattle.descent.proofs.Keeping.{kept-none, order-kept-then, ready-kept}
 use Rattle.finishing.proofs.Up.{pop-kept, pop-state}
 use Rattle.finishing.proofs.deepen.Statement.{statement}
 use Rattle.finishing.proofs.deepen.Tie as tie

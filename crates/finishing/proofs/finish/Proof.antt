@@ -2,7 +2,7 @@
 -- Assumes nothing.
 use borrow.Author.Needs.{needs}
 use native.Mathlib.Omega.{arith}
-use Rattle.finishing.proofs.Keeping.{order-kept-then, ready-kept, spans}
+use Rattle.descent.proofs.Keeping.{order-kept-then, ready-kept, spans}
 use Rattle.finishing.proofs.Start.{copy-kept, copy-begun}
 use Rattle.finishing.proofs.finish.Statement.{statement}
 use Rattle.finishing.proofs.finish.Tie as tie

@@ -5,7 +5,7 @@ use native.Mathlib.Omega.{arith}
 use mathlib.Core.Path.{_≡_, refl, sym, _∙_}
 use lib.ListN.{length}
 use borrow.Author.Needs.{needs}
-use Rattle.intake.proofs.Chains.{found-says}
+use Rattle.probes.proofs.Chains.{found-says}
 use Rattle.intake.proofs.Along.{rest, rest-fine, rest-bad, rest-none}
 use Rattle.rules.specs.Calls.{first-trouble}
 use Rattle.intake.proofs.arcs.Statement.{statement}

@@ -10,8 +10,8 @@ use Rattle.rules.specs.declared.TroubleKind.the-variants.{Pair, Zones, Arcs}
 use Rattle.rules.specs.File.{zones-bad, arcs-bad}
 use borrow.Author.Tests.{eqb-true, not-false}
 use Rattle.rules.specs.Calls.{test, arcs-of}
-use Rattle.intake.specs.Tested.{Found-by, Found-after}
-use Rattle.intake.proofs.Chains.{found-on, found-stays, found-goes-on, found-says}
+use Rattle.probes.specs.Tested.{Found-by, Found-after}
+use Rattle.probes.proofs.Chains.{found-on, found-stays, found-goes-on, found-says}
 use Rattle.theory.proofs.Files.Troubles.{passes}
 use Rattle.intake.proofs.network.Statement.{statement}
 use Rattle.intake.proofs.network.Tie as tie

@@ -2,8 +2,8 @@
 -- nothing.
 use borrow.Author.Needs.{needs}
 use mathlib.Core.Path.{ap}
-use Rattle.intake.specs.Tested.{tested-trouble}
-use Rattle.intake.proofs.Chains.{found-stays, found-goes-on}
+use Rattle.probes.specs.Tested.{tested-trouble}
+use Rattle.probes.proofs.Chains.{found-stays, found-goes-on}
 use Rattle.intake.proofs.work.Statement.{statement}
 use Rattle.intake.proofs.work.Tie as tie
 

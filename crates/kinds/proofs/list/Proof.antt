@@ -1,4 +1,4 @@
--- `kinds::list` meets its contract: the first z zones are tried, and a turn tries one more. The measure is the number
+-- `list` meets its contract: the first z zones are tried, and a turn tries one more. The measure is the number
 -- of zones that are left. Assumes nothing.
 use borrow.Author.Needs.{needs}
 use native.Mathlib.Omega.{arith}

@@ -1,4 +1,4 @@
--- `kinds::list_kinds` meets its contract: the arcs are noted, and the three lists are put one after the other. Assumes
+-- `list_kinds` meets its contract: the arcs are noted, and the three lists are put one after the other. Assumes
 -- nothing.
 use borrow.Author.Needs.{needs}
 use Rattle.kinds.proofs.Rules.{for-marking}

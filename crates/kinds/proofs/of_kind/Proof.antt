@@ -1,7 +1,7 @@
--- `kinds::of_kind` meets its contract: it goes through the three tests of `own-kind`, one after the other. Assumes
+-- `of_kind` meets its contract: it goes through the three tests of `own-kind`, one after the other. Assumes
 -- nothing.
 use borrow.Author.Needs.{needs}
-use Rattle.kinds.proofs.Tests.{own-name-no, own-entered-no, own-exited}
+use Rattle.borders.proofs.Tests.{own-name-no, own-entered-no, own-exited}
 use Rattle.kinds.proofs.of_kind.Statement.{statement}
 use Rattle.kinds.proofs.of_kind.Tie as tie
 

@@ -9,20 +9,8 @@ use Rattle.lines.proofs.put_why.Tie as tie
 slice-aggregate-put-bytes : tie.Need-slice-aggregate-put-bytes
 slice-aggregate-put-bytes c = search needs
 
-put-bytes-requires : tie.Need-put-bytes-requires
-unfolding word
-put-bytes-requires c κs =
-    let s = c .before .before .before .before in
-    rw (why-ring (s .args .why) (c .before .before .match .keys1)) at (s .pre)
-
 slice-aggregate-put-bytes-2 : tie.Need-slice-aggregate-put-bytes-2
 slice-aggregate-put-bytes-2 c = search needs
-
-put-bytes-requires-2 : tie.Need-put-bytes-requires-2
-unfolding word
-put-bytes-requires-2 c κs =
-    let s = c .before .before .before .before in
-    rw (why-chain (s .args .why) (c .before .before .match .keys2)) at (s .pre)
 
 slice-aggregate-put-bytes-3 : tie.Need-slice-aggregate-put-bytes-3
 slice-aggregate-put-bytes-3 c = search needs
@@ -60,6 +48,18 @@ returns-3 c =
     let m = c .before .before .before .before .before in
     rw (why-back (m .before .before .args .why) (m .match .rest .0 .1) (m .match .rest .1))
     (c .before .before .put-bytes3 .ensures)
+
+put-bytes-requires : tie.Need-put-bytes-requires
+unfolding word
+put-bytes-requires c κs =
+    let s = c .before .before .before .before in
+    rw (why-ring (s .args .why) (c .before .before .match .keys1)) at (s .pre)
+
+put-bytes-requires-2 : tie.Need-put-bytes-requires-2
+unfolding word
+put-bytes-requires-2 c κs =
+    let s = c .before .before .before .before in
+    rw (why-chain (s .args .why) (c .before .before .match .keys2)) at (s .pre)
 
 pub put-why-spec : {M : Type 1} → statement M
 put-why-spec =

@@ -110,22 +110,11 @@ add-at c = omega (arith, small c, start c .good .0)
 add-join : tie.Need-add-join
 add-join c = search needs
 
-join-requires : tie.Need-join-requires
-join-requires c κs =
-    let d = c .before .before in
-    ring-room d (put d .put-stations .last .0) (long d)
-
 add-join-2 : tie.Need-add-join-2
 add-join-2 c =
     let d = c .before .before .before .before .before .before in
     let P = start d .pre .placed in
     omega (arith, P .room, P .w-apart, P .w-fits, P .why-fits, start d .good .0)
-
-join-requires-2 : tie.Need-join-requires-2
-join-requires-2 c κs =
-    let e = c .before .before .before in
-    let d = e .before .before .before in
-    chain-room d (e .join .last .0) (omega (arith, e .join .kept .0, long d))
 
 join-requires-3 : tie.Need-join-requires-3
 join-requires-3 c κs =
@@ -154,6 +143,17 @@ returns c =
     linked (a .work .now) (a .n) (a .p) (start d .pre .placed) (m .last .0) (m .result) (m .ensures)
     (start d .pre) (rings d) (steps d) (rings-is d) (steps-is d) (e .join .last .0) (f .join2 .last .0)
     (g .join3 .last .0) (e .join .ensures) (f .join2 .ensures) (g .join3 .ensures)
+
+join-requires : tie.Need-join-requires
+join-requires c κs =
+    let d = c .before .before in
+    ring-room d (put d .put-stations .last .0) (long d)
+
+join-requires-2 : tie.Need-join-requires-2
+join-requires-2 c κs =
+    let e = c .before .before .before in
+    let d = e .before .before .before in
+    chain-room d (e .join .last .0) (omega (arith, e .join .kept .0, long d))
 
 pub put-links-spec : {M : Type 1} → statement M
 put-links-spec =

@@ -4,11 +4,11 @@ use borrow.Author.Needs.{needs}
 use mathlib.Core.Path.{_≡_, sym, ap, _∙_}
 use Rattle.rules.specs.Calls.{reach-trouble}
 use mathlib.Core.Option.{none}
-use Rattle.intake.specs.Tested.{tested-trouble}
-use Rattle.intake.proofs.Fine.{fine-few}
+use Rattle.probes.specs.Tested.{tested-trouble}
+use Rattle.theory.proofs.Files.Accepting.{fine-few}
 use lib.ListN.{length}
 use Rattle.workmap.specs.Map.{map-of}
-use Rattle.network.specs.Promises.{Askable}
+use Rattle.questions.specs.Questions.{Askable}
 use Rattle.network.proofs.Answering.{reach-askable, reach-refused, reach-done}
 use Rattle.network.proofs.reach.Statement.{statement}
 use Rattle.network.proofs.reach.Tie as tie

@@ -4,8 +4,8 @@ use borrow.Author.Needs.{needs}
 use mathlib.Core.Path.{_≡_, sym, ap, _∙_}
 use mathlib.Core.Option.{none}
 use Rattle.rules.specs.Calls.{strong-trouble}
-use Rattle.intake.specs.Tested.{tested-trouble}
-use Rattle.intake.proofs.Fine.{fine-few}
+use Rattle.probes.specs.Tested.{tested-trouble}
+use Rattle.theory.proofs.Files.Accepting.{fine-few}
 use Rattle.network.proofs.Answering.{strong-ready, strong-refused, strong-done}
 use Rattle.network.proofs.strong.Statement.{statement}
 use Rattle.network.proofs.strong.Tie as tie

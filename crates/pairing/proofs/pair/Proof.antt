@@ -1,4 +1,4 @@
--- `pairing::pair` meets its contract. The loop's invariant: the pairing has gone through the sources up to i. The
+-- `pair` meets its contract. The loop's invariant: the pairing has gone through the sources up to k. The
 -- measure is the number of sources left. Assumes nothing.
 use borrow.Author.Needs.{needs}
 use native.Mathlib.Omega.{arith}
@@ -10,10 +10,10 @@ use Rattle.pairing.proofs.pair.Statement.{statement}
 use Rattle.pairing.proofs.pair.Tie as tie
 
 abbrev Inv-loop : tie.InvT-loop
-Inv-loop work₀ at s t i₀ p₀ work i p = Course work₀ work at s t i p
+Inv-loop work₀ at s t k₀ p₀ work k p = Course work₀ work at s t k p
 
 abbrev μ-loop : tie.MeasureT-loop
-μ-loop work₀ at s t i₀ p₀ work i p = s - i
+μ-loop work₀ at s t k₀ p₀ work k p = s - k
 
 loop-holds : tie.Need-loop-holds Inv-loop μ-loop
 loop-holds c =
@@ -29,8 +29,11 @@ settle-requires c κs =
       more = search needs;
     }
 
-add-i : tie.Need-add-i Inv-loop μ-loop
-add-i c = search needs
+add-k : tie.Need-add-k Inv-loop μ-loop
+add-k c =
+    let l = c .before .before .before .before .before .loop in
+    let b = l .inv .able in
+    omega (arith, b .laid .small, b .sources-few, l .inv .turns)
 
 loop-less : tie.Need-loop-less Inv-loop μ-loop
 loop-less c = search needs
@@ -47,7 +50,7 @@ returns : tie.Need-returns Inv-loop μ-loop
 returns c =
     let e = c .before .before .before in
     let l = c .before .loop in
-    let all : l .i ≡ e .args .s = omega (arith, l .inv .turns, c .loop-test .left) in
+    let all : l .k ≡ e .args .s = omega (arith, l .inv .turns, c .loop-test .left) in
     course-done (e .args .work .now) (l .work) (e .args .at) (e .args .s) (e .args .t) (l .p) (rw all at (l .inv))
 
 pub pair-spec : {M : Type 1} → statement M
@@ -58,7 +61,7 @@ pair-spec =
     μ-loop
     loop-holds
     settle-requires
-    add-i
+    add-k
     loop-less
     loop-again
     same-length

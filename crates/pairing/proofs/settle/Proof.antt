@@ -1,4 +1,4 @@
--- `pairing::settle` meets its contract: the source has its turn, and is stored by what the turn answers.
+-- `settle` meets its contract: the source has its turn, and is stored by what the turn answers.
 -- Assumes nothing.
 use borrow.Author.Needs.{needs}
 use native.Mathlib.Omega.{arith}
@@ -8,7 +8,7 @@ use Prim.Native.Nat.{ℕ, _+_, _-_}
 use lib.ListN.{getD, length-set}
 use Rattle.arranged.specs.declared.Found.{Found}
 use Rattle.arranged.specs.declared.Found.the-variants.{At, Nothing}
-use Rattle.pairing.specs.Turn.{Turned}
+use Rattle.turns.specs.Turn.{Turned}
 use Rattle.pairing.proofs.CourseLaws.{turnable, course-lone, course-paired}
 use Rattle.pairing.proofs.settle.Statement.{statement}
 use Rattle.pairing.proofs.settle.Tie as tie

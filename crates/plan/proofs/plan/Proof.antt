@@ -6,10 +6,10 @@ use mathlib.Core.Option.{none}
 use lib.ListN.{length}
 use Rattle.rules.specs.Calls.{plan-trouble}
 use Rattle.workmap.proofs.Places.{placed, links-placed}
-use Rattle.intake.specs.Tested.{tested-trouble}
+use Rattle.probes.specs.Tested.{tested-trouble}
 use Rattle.plan.proofs.Answering.{Plannable, tests-plannable, plan-refused, plan-done}
 use borrow.Author.Needs.{needs}
-use Rattle.intake.proofs.Fine.{fine-few}
+use Rattle.theory.proofs.Files.Accepting.{fine-few}
 use native.Mathlib.Omega.{arith}
 use Rattle.plan.proofs.plan.Statement.{statement}
 use Rattle.plan.proofs.plan.Tie as tie
@@ -73,17 +73,9 @@ map c = c .before .before
 abbrev here : Laid → Here
 here c = tests (map c)
 
--- the plan laid out, from where the starts are copied out
-abbrev one : tie.After-copy-out → Laid
-one c = c .before .before .before .before .before
-
--- the starts copied out, from the ends
-abbrev two : tie.After-copy-out2 → tie.After-copy-out
-two c = c .before .before .before .before .before
-
--- the ends copied out, from the whys
-abbrev three : tie.After-copy-out3 → tie.After-copy-out2
-three c = c .before .before .before .before .before
+-- the plan laid out, from where its links are handed out
+abbrev out : tie.After-hand-out → Laid
+out c = c .before .before .before .before .before .before .before
 
 -- what copying the links out asks for: the columns lie in the memory, and each is as long as the plan is
 copies : (c : Laid) →
@@ -134,24 +126,23 @@ map-of-requires c κs = let f = plannable c .ready .fine in (f .accepted .zones-
 lay-requires : tie.Need-lay-requires
 lay-requires c κs = let m = c .before in rw (m .map-of .ensures) (plannable (tests m) .ready)
 
-copy-out-requires : tie.Need-copy-out-requires
-copy-out-requires c κs =
-    let d = c .before .before .before .before in
-    (copies d .0 .0, omega (arith, copies d .1 .1, plannable (here d) .from-room))
-
-copy-out-requires-2 : tie.Need-copy-out-requires-2
-copy-out-requires-2 c κs =
-    let d = one (c .before .before .before .before) in
-    (copies d .0 .1, omega (arith, copies d .1 .1, plannable (here d) .to-room))
-
-copy-out-requires-3 : tie.Need-copy-out-requires-3
-copy-out-requires-3 c κs =
-    let d = one (two (c .before .before .before .before)) in
-    (copies d .1 .0, omega (arith, copies d .1 .1, plannable (here d) .why-room))
+hand-out-requires : tie.Need-hand-out-requires
+hand-out-requires c κs =
+    let d = c .before .before .before .before .before .before in
+    let p = plannable (here d) in
+    let few = copies d .1 .1 in
+    record {
+      starts = omega (arith, copies d .0 .0);
+      ends = omega (arith, copies d .0 .1);
+      whys = omega (arith, copies d .1 .0);
+      from-room = omega (arith, few, p .from-room);
+      to-room = omega (arith, few, p .to-room);
+      why-room = omega (arith, few, p .why-room);
+    }
 
 clear-requires : tie.Need-clear-requires
 clear-requires c κs =
-    let d = one (two (three (c .before .before .before))) in
+    let d = out (c .before .before .before .before .before .before .before) in
     let p = placed (map d .map-of .ensures) in
     omega (arith, plannable (here d) .ready .room, d .lay .ensures .long)
 
@@ -173,18 +164,16 @@ same-length-8 c = search needs
 returns-2 : tie.Need-returns-2
 returns-2 c =
     let h = c .before .before .before in
-    let g = h .before .before .before .before in
-    let f = three g in
-    let e = two f in
-    let d = one e in
+    let g = h .before .before .before .before .before .before .before .before in
+    let d = out g in
+    let o = g .hand-out in
     let m = map d in
     let a = entry (here d .before .before) .args in
     plan-done (a .zones) (a .tails .now) (a .heads .now) (a .from .now) (a .to .now) (a .why .now) (a .work .now)
-    (m .map-of .result) (d .lay .last .1 .1 .1 .0) (e .copy-out .last .1 .1 .1 .0)
-    (f .copy-out2 .last .1 .1 .1 .0) (g .copy-out3 .last .1 .1 .1 .0) (h .clear .last .0)
-    (d .lay .result) (c .answer-of .result)
-    (m .map-of .ensures) (none-here (here d)) (d .lay .ensures) (c .answer-of .ensures) (e .copy-out .ensures)
-    (f .copy-out2 .ensures) (g .copy-out3 .ensures) (h .clear .ensures)
+    (m .map-of .result) (d .lay .last .1 .1 .1 .0) (o .last .1 .1 .1 .0) (o .last .1 .1 .1 .1 .0)
+    (o .last .1 .1 .1 .1 .1 .0) (h .clear .last .0) (d .lay .result) (c .answer-of .result) (m .map-of .ensures)
+    (none-here (here d)) (d .lay .ensures) (c .answer-of .ensures) (o .ensures .starts-out) (o .ensures .ends-out)
+    (o .ensures .whys-out) (h .clear .ensures)
 
 pub plan-spec : {M : Type 1} → statement M
 plan-spec =
@@ -200,9 +189,7 @@ plan-spec =
     enum-told
     map-of-requires
     lay-requires
-    copy-out-requires
-    copy-out-requires-2
-    copy-out-requires-3
+    hand-out-requires
     clear-requires
     answer-of-requires
     same-length-5

@@ -7,7 +7,7 @@ use mathlib.Core.Path.{_≡_, ap, _∙_}
 use mathlib.Core.Logic.{⊎-elim}
 use Rattle.arranged.proofs.Zeros.{below?}
 use Rattle.workmap.proofs.Places.{names-placed}
-use Rattle.crossings.specs.Named.{name-at}
+use Rattle.outward.specs.Standing.{name-at}
 use Rattle.ring.proofs.next_above.Statement.{statement}
 use Rattle.ring.proofs.next_above.Tie as tie
 

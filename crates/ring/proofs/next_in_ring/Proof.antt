@@ -5,7 +5,7 @@ use native.Mathlib.Omega.{arith}
 use mathlib.Core.Path.{_≡_, sym, _∙_}
 use mathlib.Core.Logic.{inl, inr}
 use Rattle.workmap.proofs.Places.{names-placed}
-use Rattle.crossings.specs.Named.{name-at}
+use Rattle.outward.specs.Standing.{name-at}
 use Rattle.ring.specs.Ring.{First-above}
 use Rattle.ring.proofs.next_in_ring.Statement.{statement}
 use Rattle.ring.proofs.next_in_ring.Tie as tie

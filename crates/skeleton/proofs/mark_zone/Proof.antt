@@ -4,7 +4,8 @@ use borrow.Author.Needs.{needs}
 use mathlib.Core.Path.{_≡_}
 use Rattle.rules.specs.Lists.{cleared}
 use Rattle.workmap.proofs.Places.{names-placed}
-use Rattle.crossings.specs.Named.{Crossed, tops-at}
+use Rattle.outward.specs.Standing.{tops-at}
+use Rattle.crossings.specs.Named.{Crossed}
 use Rattle.skeleton.proofs.Zone.{zone-inside, zone-named, zone-clear, zone-ringable, zone-marked}
 use Rattle.skeleton.proofs.mark_zone.Statement.{statement}
 use Rattle.skeleton.proofs.mark_zone.Tie as tie

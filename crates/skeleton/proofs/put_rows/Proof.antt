@@ -4,8 +4,8 @@ use borrow.Author.Needs.{needs}
 use native.Mathlib.Omega.{arith}
 use Prim.Native.Nat.{_≤_, _-_}
 use mathlib.Core.Path.{_≡_}
-use Rattle.skeleton.specs.Putting.{Rows-put}
-use Rattle.skeleton.proofs.Puts.{put-long}
+use Rattle.skeleton.specs.Zones.{Rows-put}
+use Rattle.putting.proofs.Puts.{put-long}
 use Rattle.skeleton.proofs.Zones.{zones-none, zones-named, zones-markable, zones-room, zones-turn}
 use Rattle.skeleton.proofs.put_rows.Statement.{statement}
 use Rattle.skeleton.proofs.put_rows.Tie as tie

@@ -3,7 +3,7 @@
 use borrow.Author.Needs.{needs}
 use mathlib.Core.Path.{_≡_, sym, ap, _∙_}
 use Rattle.rules.specs.Calls.{skeleton-trouble}
-use Rattle.intake.specs.Tested.{tested-trouble}
+use Rattle.probes.specs.Tested.{tested-trouble}
 use Rattle.skeleton.proofs.Answering.{skeleton-sketchable, skeleton-refused, skeleton-done}
 use Rattle.skeleton.proofs.skeleton.Statement.{statement}
 use Rattle.skeleton.proofs.skeleton.Tie as tie

@@ -2,13 +2,16 @@
 -- put, and clearing leaves what came behind. Assumes nothing.
 use borrow.Author.Needs.{needs}
 use native.Mathlib.Omega.{arith}
-use mathlib.Core.Path.{_≡_, refl, ap}
+use Prim.Native.Nat.{ℕ}
+use mathlib.Core.Path.{_≡_, refl, ap, subst}
 use lib.ListN.{length}
+use Rattle.rules.specs.Lists.{cleared}
 use Rattle.rules.specs.Network.{network-of}
 use Rattle.rules.specs.Calls.{arcs-of}
-use Rattle.intake.proofs.Fine.{fine-few}
+use Rattle.theory.proofs.Files.Accepting.{fine-few}
 use Rattle.workmap.specs.declared.Map.{Map}
 use Rattle.workmap.specs.Map.{map-of}
+use Rattle.workmap.proofs.Places.{placed}
 use Rattle.arranged.specs.Ready.{Readied}
 use Rattle.components.specs.Components.{Lent, Components}
 use Rattle.components.proofs.Lending.{lent-ready, components-at}
@@ -93,20 +96,14 @@ put-rows-requires c κs =
       (s .pre .tails-room, (s .pre .heads-room, is-map e)),
     )
 
-asked-work-requires : tie.Need-asked-work-requires
-asked-work-requires c κs =
-    let p = c .before .before .before .before .before .before .before in
-    let F = entry (ready-at (p .before .before .before .before .before .before)) .pre .ready .fine in
-    (F .accepted .zones-most, fine-few F)
-
 clear-requires : tie.Need-clear-requires
 clear-requires c κs =
-    let p = c .before .before .before .before .before .before .before .before in
+    let p = c .before .before .before .before .before .before .before in
     let d = p .before .before .before .before .before .before in
     let e = ready-at d in
+    let at = placed (e .before .before .map-of .ensures) in
     omega (
       arith,
-      c .asked-work .ensures,
       entry e .pre .ready .room,
       readied-there e .standing .long,
       components-here d .long,
@@ -125,8 +122,7 @@ same-length-3 c = search needs
 returns : tie.Need-returns
 returns c =
     let x = c .before .before in
-    let told = x .before .asked-work .ensures in
-    let p = x .before .before .before .before .before .before .before .before .before in
+    let p = x .before .before .before .before .before .before .before .before in
     let d = p .before .before .before .before .before .before in
     let e = ready-at d in
     let s = entry e in
@@ -135,7 +131,9 @@ returns c =
     sketched (a .zones) (a .tails .now) (a .heads .now) (a .work .now) (e .ready .last .1 .1 .1 .0) (s .pre .ready)
     (readied-there e) (d .name-all .last .0) (d .name-all .result) (components-here d) (a .from .now) (a .to .now)
     (s .pre) (r .last .1 .1 .1 .0) (r .last .1 .1 .1 .1 .1 .0) (r .last .1 .1 .1 .1 .1 .1 .0) (r .result)
-    (rw (zones-are e) at (r .ensures)) (x .clear .last .0) (rw told at (x .clear .ensures))
+    (rw (zones-are e) at (r .ensures)) (x .clear .last .0)
+    (subst (λ (k : ℕ). x .clear .last .0 ≡ cleared k (r .last .1 .1 .1 .0))
+    (ap (λ (m : Map). m .asked) (e .before .before .map-of .ensures)) (x .clear .ensures))
 
 pub sketch-spec : {M : Type 1} → statement M
 sketch-spec =
@@ -145,7 +143,6 @@ sketch-spec =
     ready-requires
     name-all-requires
     put-rows-requires
-    asked-work-requires
     clear-requires
     same-length
     same-length-2

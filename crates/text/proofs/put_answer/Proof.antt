@@ -53,8 +53,8 @@ returns c =
 enum-known-answer-2 : tie.Need-enum-known-answer-2
 enum-known-answer-2 c = search needs
 
-put-plan-requires : tie.Need-put-plan-requires
-put-plan-requires c κs =
+say-plan-requires : tie.Need-say-plan-requires
+say-plan-requires c κs =
     let m = c .before .before in
     let f = asked (entry (m .before .before)) (m .answer2 .given .1) in
     ((f .starts-fit, (f .ends-fit, f .whys-fit)), f .lines-fit)
@@ -66,7 +66,7 @@ returns-2 : tie.Need-returns-2
 returns-2 c =
     let r = c .before .before in
     let m = r .before .before .before in
-    case (entry (m .before .before)) (m .answer2 .given .1) (r .put-plan .ensures)
+    case (entry (m .before .before)) (m .answer2 .given .1) (r .say-plan .ensures)
 
 pub put-answer-spec : {M : Type 1} → statement M
 put-answer-spec =
@@ -77,6 +77,6 @@ put-answer-spec =
     same-length
     returns
     enum-known-answer-2
-    put-plan-requires
+    say-plan-requires
     same-length-2
     returns-2)

@@ -7,8 +7,8 @@ use Rattle.text.proofs.refuse.Tie as tie
 trouble-number-requires : tie.Need-trouble-number-requires
 trouble-number-requires c κs = search needs
 
-put-refusal-requires : tie.Need-put-refusal-requires
-put-refusal-requires c κs = search needs
+say-refusal-requires : tie.Need-say-refusal-requires
+say-refusal-requires c κs = search needs
 
 same-length : tie.Need-same-length
 same-length c = search needs
@@ -16,7 +16,7 @@ same-length c = search needs
 returns : tie.Need-returns
 returns c =
     let d = c .before .before in
-    rw refusal-put (rw (d .before .trouble-number .ensures) at (d .put-refusal .ensures))
+    rw refusal-put (rw (d .before .trouble-number .ensures) at (d .say-refusal .ensures))
 
 pub refuse-spec : {M : Type 1} → statement M
-refuse-spec = tie.close (tie.spec trouble-number-requires put-refusal-requires same-length returns)
+refuse-spec = tie.close (tie.spec trouble-number-requires say-refusal-requires same-length returns)

@@ -4,6 +4,9 @@
 --   tail-below, head-below, ends-apart   what an accepted network says of the index i of its two lists
 --   arcs-most-lists                  and of their length
 --   acceptable-proper                an accepted network is proper
+--   Fine n ts hs                     the lists pair up, and the network is accepted: a network that passes its tests
+--   fine, fine-tests                 it is so where the tests find no trouble;   and back
+--   fine-few, fine-proper            it has at most 4,096 tails, and is proper
 -- A test that does not fail is one bound of an accepted network; the arcs go one after the other. Assumes nothing.
 use Prim.Native.Nat.{ℕ, zero, suc, _≤_, _<_}
 use native.Mathlib.Omega.{arith}
@@ -124,3 +127,24 @@ module _ (n : ℕ) (ts hs : List ℕ) where
   pub acceptable-proper : Acceptable (given n ts hs) → Proper (handed n ts hs)
   unfolding handed
   acceptable-proper A = network-proper n (arcs-of ts hs) (λ a b m. (A .tails m, A .heads m))
+
+-- tail list and head list pair up, and what they hand in is a network that a call accepts
+pub record Fine (n : ℕ) (ts hs : List ℕ) : Type 0 where
+  pub paired : length ts ≡ length hs
+  pub accepted : Acceptable (given n ts hs)
+
+-- a network that is handed in and has no trouble
+pub fine : (n : ℕ) (ts hs : List ℕ) → first-trouble (network-tests n ts hs) ≡ none → Fine n ts hs
+fine n ts hs e = record { paired = tests-paired n ts hs e; accepted = tests-acceptable n ts hs e }
+
+-- and back
+pub fine-tests : (n : ℕ) (ts hs : List ℕ) → Fine n ts hs → first-trouble (network-tests n ts hs) ≡ none
+fine-tests n ts hs f = acceptable-tests n ts hs (f .paired) (f .accepted)
+
+-- it has at most 4,096 tails
+pub fine-few : {n : ℕ} {ts hs : List ℕ} → Fine n ts hs → length ts ≤ 4096
+fine-few {n} {ts} {hs} f = arcs-most-lists n ts hs (f .paired) (f .accepted)
+
+-- it is proper
+pub fine-proper : (n : ℕ) (ts hs : List ℕ) → Fine n ts hs → Proper (handed n ts hs)
+fine-proper n ts hs f = acceptable-proper n ts hs (f .accepted)

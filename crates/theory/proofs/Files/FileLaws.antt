@@ -33,7 +33,7 @@ abbrev pub Reading-sound : ℕ → Arc → Type 0
 Reading-sound n e = (e .tail < n) × (e .head < n) × (e .tail ≡ e .head → ⊥)
 
 -- an arc that is read from `at` up to `next`: a number for its tail, one for its head, and nothing wrong with them
-pub record ArcRead (s : List ℕ) (n at : ℕ) (e : Arc) (next : ℕ) : Type 0 where
+pub record Arc-got (s : List ℕ) (n at : ℕ) (e : Arc) (next : ℕ) : Type 0 where
   pub mid : ℕ
   pub tail-read : number-at s at ≡ got (e .tail) mid
   pub head-read : number-at s mid ≡ got (e .head) next
@@ -65,7 +65,7 @@ module _ (s : List ℕ) (n : ℕ) where
       (rw (got-value (u .1)) at (leb-false n (r .0) (u .0)), r .2 ∙ u .1)
 
   -- an arc that is read is two numbers
-  arc-got : (at : ℕ) {e : Arc} {next : ℕ} → arc-at s n at ≡ got e next → ArcRead s n at e next
+  arc-got : (at : ℕ) {e : Arc} {next : ℕ} → arc-at s n at ≡ got e next → Arc-got s n at e next
   unfolding arc-at
   arc-got at e =
       let r = then-got (zone-at s n at) _ e in
@@ -73,7 +73,7 @@ module _ (s : List ℕ) (n : ℕ) where
       let u = unless-got (eqb (r .0) (q .0)) _ _ (q .3) in
       let t = zone-got at (r .2) in
       let h = zone-got (r .1) (q .2) in
-      subst₂ (ArcRead s n at) (got-value (u .1)) (got-place (u .1))
+      subst₂ (Arc-got s n at) (got-value (u .1)) (got-place (u .1))
       (record {
         mid = r .1;
         tail-read = t .1;
@@ -92,7 +92,7 @@ module _ (s : List ℕ) (n : ℕ) where
       (r .0, r .1, q .0, r .2, q .2 ∙ ap (got (q .0)) (got-place (q .3)), got-value (q .3))
 
   -- as many arcs are read as are asked for
-  arcs-count : (m at : ℕ) {es : List Arc} {end : ℕ} → arcs-at s n m at ≡ got es end → length es ≡ m
+  pub arcs-count : (m at : ℕ) {es : List Arc} {end : ℕ} → arcs-at s n m at ≡ got es end → length es ≡ m
   unfolding arcs-at
   arcs-count zero at e = ap length (sym (got-value e))
   arcs-count (suc m) at e =

@@ -23,7 +23,7 @@ pub read-outcomes-equal : (file ts hs : List ℕ) {a b : ReadAnswer} {ts₁ hs�
     → Read-promise file ts hs ts₁ hs₁ (read-told a) → Read-promise file ts hs ts₂ hs₂ (read-told b)
     → (a ≡ b) × (ts₁ ≡ ts₂) × (hs₁ ≡ hs₂)
 read-outcomes-equal file ts hs {a} {b} p q =
-    (read-told-once a b (p .says ∙ sym (q .says)), p .tails ∙ sym (q .tails), p .heads ∙ sym (q .heads))
+    (read-told-once a b (p .told-is ∙ sym (q .told-is)), p .tails ∙ sym (q .tails), p .heads ∙ sym (q .heads))
 
 module _ (n : ℕ) (ts hs : List ℕ) where
   -- WRITE: the answer and the bytes
@@ -31,21 +31,21 @@ module _ (n : ℕ) (ts hs : List ℕ) where
       → Write-promise n ts hs file file₁ (write-told a) → Write-promise n ts hs file file₂ (write-told b)
       → (a ≡ b) × (file₁ ≡ file₂)
   write-outcomes-equal file {a} {b} p q =
-      (write-told-once a b (p .says ∙ sym (q .says)), p .bytes ∙ sym (q .bytes))
+      (write-told-once a b (p .told-is ∙ sym (q .told-is)), p .bytes ∙ sym (q .bytes))
 
   -- STRONG: the answer and the work memory
   pub strong-outcomes-equal : (w : List ℕ) {a b : StrongAnswer} {w₁ w₂ : List ℕ}
       → Strong-promise n ts hs w w₁ (strong-told a) → Strong-promise n ts hs w w₂ (strong-told b)
       → (a ≡ b) × (w₁ ≡ w₂)
   strong-outcomes-equal w {a} {b} p q =
-      (strong-told-once a b (p .says ∙ sym (q .says)), p .work ∙ sym (q .work))
+      (strong-told-once a b (p .told-is ∙ sym (q .told-is)), p .work ∙ sym (q .work))
 
   -- REACH: the answer and the work memory
   pub reach-outcomes-equal : (from to : ℕ) (w : List ℕ) {a b : ReachAnswer} {w₁ w₂ : List ℕ}
       → Reach-promise n ts hs from to w w₁ (reach-told a) → Reach-promise n ts hs from to w w₂ (reach-told b)
       → (a ≡ b) × (w₁ ≡ w₂)
   reach-outcomes-equal from to w {a} {b} p q =
-      (reach-told-once a b (p .says ∙ sym (q .says)), p .work ∙ sym (q .work))
+      (reach-told-once a b (p .told-is ∙ sym (q .told-is)), p .work ∙ sym (q .work))
 
   -- SKELETON: the answer and the three lent lists
   pub skeleton-outcomes-equal : (ots ohs w : List ℕ) {a b : SkeletonAnswer} {ots₁ ohs₁ w₁ ots₂ ohs₂ w₂ : List ℕ}
@@ -53,7 +53,7 @@ module _ (n : ℕ) (ts hs : List ℕ) where
       → Skeleton-promise n ts hs ots ohs w ots₂ ohs₂ w₂ (skeleton-told b)
       → (a ≡ b) × (ots₁ ≡ ots₂) × (ohs₁ ≡ ohs₂) × (w₁ ≡ w₂)
   skeleton-outcomes-equal ots ohs w {a} {b} p q = (
-    skeleton-told-once a b (p .says ∙ sym (q .says)),
+    skeleton-told-once a b (p .told-is ∙ sym (q .told-is)),
     p .tails ∙ sym (q .tails),
     p .heads ∙ sym (q .heads),
     p .work ∙ sym (q .work),
@@ -65,7 +65,7 @@ module _ (n : ℕ) (ts hs : List ℕ) where
       → Plan-promise n ts hs from to why w f₂ t₂ y₂ w₂ (plan-told b)
       → (a ≡ b) × (f₁ ≡ f₂) × (t₁ ≡ t₂) × (y₁ ≡ y₂) × (w₁ ≡ w₂)
   plan-outcomes-equal from to why w {a} {b} p q = (
-    plan-told-once a b (p .says ∙ sym (q .says)),
+    plan-told-once a b (p .told-is ∙ sym (q .told-is)),
     p .from-left ∙ sym (q .from-left),
     p .to-left ∙ sym (q .to-left),
     p .why-left ∙ sym (q .why-left),
@@ -77,7 +77,7 @@ module _ (n : ℕ) (ts hs : List ℕ) where
       → Records-promise n ts hs ls w ls₁ w₁ (plan-told a) → Records-promise n ts hs ls w ls₂ w₂ (plan-told b)
       → (a ≡ b) × (ls₁ ≡ ls₂) × (w₁ ≡ w₂)
   records-outcomes-equal ls w {a} {b} p q = (
-    plan-told-once a b (p .says ∙ sym (q .says)),
+    plan-told-once a b (p .told-is ∙ sym (q .told-is)),
     p .links-left ∙ sym (q .links-left),
     p .work-left ∙ sym (q .work-left),
   )

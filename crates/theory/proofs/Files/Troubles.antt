@@ -5,6 +5,7 @@
 --   Passed ts       each test of the list passes
 --   none-passed, passed-none     there is no trouble exactly where each test passes
 --   passed-append, append-passed   one list after another: each test of both passes
+--   goes-on, stops               what a test that does not fail, and one that fails, makes of the trouble
 --   passes, both-pass            the same said of the first test, and of two lists, by their troubles
 -- Each goes by cases on whether the first test fails. Assumes nothing.
 use mathlib.Core.Path.{_≡_, refl, sym, ap, _∙_}
@@ -54,6 +55,16 @@ passes false r u e = (refl, e)
 pub pass : (b : Bool) (r : Trouble) {u : Option Trouble} → b ≡ false → u ≡ none
     → _≡_ {A = Option Trouble} (elim b [ true ↦ some r | false ↦ u ]) none
 pass b r e f = rw (e, f)
+
+-- a test that does not fail leaves the trouble to those after it
+pub goes-on : {b : Bool} (r : Trouble) (u : Option Trouble) → b ≡ false
+    → _≡_ {A = Option Trouble} (elim b [ true ↦ some r | false ↦ u ]) u
+goes-on r u e = rw e
+
+-- one that fails is the trouble
+pub stops : {b : Bool} (r : Trouble) (u : Option Trouble) → b ≡ true
+    → _≡_ {A = Option Trouble} (elim b [ true ↦ some r | false ↦ u ]) (some r)
+stops r u e = rw e
 
 -- where two lists of tests have no trouble, neither has
 pub both-pass : (xs ys : List Test) → first-trouble (xs ++ ys) ≡ none

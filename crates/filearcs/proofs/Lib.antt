@@ -1,0 +1,2 @@
+-- The laws that the proofs of an arc cite.
+pub mod ArcCases

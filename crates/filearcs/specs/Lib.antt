@@ -1,0 +1,2 @@
+-- What the contract of an arc cites.
+pub mod Readings

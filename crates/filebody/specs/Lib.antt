@@ -1,0 +1,2 @@
+-- What the contract of a file's body cites.
+pub mod Answered

@@ -1,0 +1,2 @@
+-- What the contracts of the two counts cite.
+pub mod Counts

@@ -1,0 +1,4 @@
+-- The laws that the proofs of the passes cite.
+pub mod Overs
+pub mod ArcTurns
+pub mod Partway

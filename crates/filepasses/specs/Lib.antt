@@ -1,0 +1,2 @@
+-- What the contracts of the passes cite.
+pub mod Readings

@@ -1,0 +1,3 @@
+-- Laws of the naming and of the listing, over plain functions.
+pub mod Noting
+pub mod Picking

@@ -1,3 +1,0 @@
--- What the contracts of reading and writing cite.
-pub mod Readings
-pub mod Promises

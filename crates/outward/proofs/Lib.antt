@@ -1,0 +1,3 @@
+-- Laws of marking the components that arcs lead to.
+pub mod MarkSet
+mod Noting

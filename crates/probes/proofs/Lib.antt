@@ -1,0 +1,2 @@
+-- The laws that chains of tests are proved by.
+pub mod Chains

@@ -1,0 +1,69 @@
+// The single tests of a call. Each function takes what the tests before it found and hands it on, or else what its own
+// tests find, so that a call is tested by a chain of them (crates `intake` and `admission`). A new test is a line here.
+ghost use mathlib.Core.Path.{_≡_};
+ghost use mathlib.Core.List.{[], _∷_};
+ghost use mathlib.Core.Bool.{Bool};
+ghost use Rattle.rules.specs.Network.{_⟶_};
+ghost use Rattle.rules.specs.File.{zones-bad};
+ghost use Rattle.rules.specs.Calls.{test, arc-tests, question-tests, room-test};
+ghost use Rattle.probes.specs.Tested.{Found-by, Found-after};
+use rules::Trouble;
+use rules::TroubleKind;
+
+// What tests find: no trouble, or the first one.
+pub enum Tested {
+    Fine,
+    Refused(Trouble),
+}
+
+// One test, after others: where it fails there is a trouble of this kind at this place.
+pub fn test(before: Tested, fails: bool, kind: TroubleKind, place: usize) -> Tested
+    ensures { λ r. ⌜ Found-after before (test fails kind place ∷ []) r ⌝ }
+{
+    if let Tested::Refused(t) = before {
+        return Tested::Refused(t);
+    }
+    if fails {
+        return Tested::Refused(Trouble {
+            kind: kind,
+            place: place,
+        });
+    }
+    Tested::Fine
+}
+
+// Whether a zone count is out of its bounds.
+pub fn zones_bad(zones: usize) -> bool
+    ensures { λ r. ⌜ r ≡ zones-bad zones ⌝ }
+{
+    if zones == 0 {
+        return true;
+    }
+    1024 < zones
+}
+
+// The tests of the arc of index `i`.
+pub fn arc(zones: usize, tail: u16, head: u16, i: usize) -> Tested
+    ensures { λ r. ⌜ Found-by (arc-tests zones i (tail ⟶ head)) r ⌝ }
+{
+    let t = tail as usize;
+    let h = head as usize;
+    let tailed = test(Tested::Fine, zones <= t, TroubleKind::Range, i);
+    let headed = test(tailed, zones <= h, TroubleKind::Range, i);
+    test(headed, t == h, TroubleKind::SelfArc, i)
+}
+
+// The tests of the two zones of a question about a network of so many zones and arcs.
+pub fn question(before: Tested, zones: usize, arcs: usize, from: usize, to: usize) -> Tested
+    ensures { λ r. ⌜ Found-after before (question-tests zones arcs from to) r ⌝ }
+{
+    let r = test(before, zones <= from, TroubleKind::Range, arcs);
+    test(r, zones <= to, TroubleKind::Range, arcs)
+}
+
+// The test of a lent list's length.
+pub fn room(before: Tested, asked: usize, lent: usize) -> Tested
+    ensures { λ r. ⌜ Found-after before (room-test asked lent ∷ []) r ⌝ }
+{
+    test(before, lent < asked, TroubleKind::Room, 0)
+}

@@ -1,0 +1,3 @@
+-- What the two questions ask and answer.
+pub mod Marks
+pub mod Questions

@@ -1,0 +1,4 @@
+-- Laws of a source's turn in lent work memory.
+mod TakeOut
+mod Picking
+mod TurnLaws

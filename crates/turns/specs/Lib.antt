@@ -1,0 +1,2 @@
+-- What the contracts of a source's turn say of lent work memory.
+pub mod Turn
