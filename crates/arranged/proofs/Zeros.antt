@@ -1,5 +1,4 @@
 -- How many marks are clear: the number that falls with every mark, by which a search ends.
---   same?, below?    two numbers are the same or not; one is below another or not
 --   zeros-other      a store outside the marks changes nothing
 --   zeros-mark       a mark on a zone that had none takes one off
 --   zeros-clear, zeros-none, zeros-same   all are clear; none is; equal marks give equal numbers
@@ -7,33 +6,16 @@
 -- Each is by induction on the number of zones. Assumes nothing.
 use mathlib.Core.Path.{_≡_, refl, sym, ap, _∙_}
 use mathlib.Core.Logic.{_⊎_, inl, inr, ⊎-elim, _≢_}
-use mathlib.Core.Bool.{Bool, true, false}
 use mathlib.Core.List.{List}
 use Prim.Native.Nat.{ℕ, zero, suc, _+_, _≤_, _<_}
 use native.Mathlib.Nat.{eq-or-lt-of-le}
 use native.Mathlib.Omega.{arith}
-use lib.Dec.{eqb, ltb}
+use lib.Dec.{eqb}
 use lib.ListN.{length, getD, set}
 use lib.Seq.{getD-set-same, getD-set-other}
-use borrow.Author.Tests.{eqb-true, eqb-false, ltb-true, ltb-false, ne-eqb}
+use borrow.Author.Tests.{ne-eqb}
 use Rattle.theory.proofs.Files.AnswerLaws.{yes-few}
 use Rattle.arranged.specs.Marks.{zeros}
-
--- two numbers are the same or not
-pub same? : (a b : ℕ) → (a ≡ b) ⊎ (a ≢ b)
-same? a b = go (eqb a b) refl
-  where
-    go : (t : Bool) → eqb a b ≡ t → (a ≡ b) ⊎ (a ≢ b)
-    go true e = inl (eqb-true a b e)
-    go false e = inr (eqb-false a b e)
-
--- one number is below another or not
-pub below? : (a b : ℕ) → (a < b) ⊎ (b ≤ a)
-below? a b = go (ltb a b) refl
-  where
-    go : (t : Bool) → ltb a b ≡ t → (a < b) ⊎ (b ≤ a)
-    go true e = inl (ltb-true a b e)
-    go false e = inr (ltb-false a b e)
 
 -- a store outside the marks changes nothing
 pub zeros-other : (w : List ℕ) (i x at n : ℕ) → (i < at) ⊎ (at + n ≤ i) → zeros (set w i x) at n ≡ zeros w at n

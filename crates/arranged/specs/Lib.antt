@@ -2,5 +2,4 @@
 pub mod Rows
 pub mod Marks
 pub mod Arranged
-pub mod Storing
 pub mod Ready

@@ -19,8 +19,8 @@ use Rattle.rules.specs.Calls.{arcs-of}
 use Rattle.workmap.specs.declared.KindsAt.{KindsAt}
 use Rattle.memory.specs.Regions.{cell}
 use Rattle.memory.proofs.Regions.{at-kept}
-use Rattle.arranged.proofs.Zeros.{same?}
-use Rattle.arranged.proofs.ArcRows.{arcs-more}
+use Rattle.memory.proofs.Numbers.{same?}
+use Rattle.arccounts.proofs.Heads.{arcs-more}
 use Rattle.borders.specs.Borders.{comes, goes, raised, Around, Kinds-room, Noted, Marking, Markable}
 use Rattle.borders.proofs.Tests.{raised-one}
 

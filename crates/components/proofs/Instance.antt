@@ -9,8 +9,9 @@ use Rattle.rules.specs.Network.{Arc}
 use Rattle.rules.specs.Calls.{arcs-of}
 use Rattle.theory.proofs.Files.Accepting.{Fine}
 use Rattle.workmap.specs.Map.{row-places, map-of}
-use Rattle.arranged.specs.Arranged.{heads-of, tails-below, Arranged-at}
-use Rattle.arranged.proofs.Zeros.{same?}
+use Rattle.arccounts.specs.Counts.{heads-of, tails-below}
+use Rattle.arranged.specs.Arranged.{Arranged-at}
+use Rattle.memory.proofs.Numbers.{same?}
 use Rattle.components.specs.Components.{Lent}
 
 -- 24 clear elements, the starts and the row of the arc, the starts and the row of the arc turned round, and 3 more

@@ -17,7 +17,7 @@ use Rattle.rules.specs.Components.{name}
 use Rattle.workmap.specs.declared.RowsAt.{RowsAt}
 use Rattle.arranged.specs.Rows.{Entry, rows-of}
 use Rattle.arranged.specs.Arranged.{Between, Arranged-at}
-use Rattle.arranged.proofs.Zeros.{same?, below?}
+use Rattle.memory.proofs.Numbers.{same?, below?}
 use Rattle.arranged.proofs.ArrangedLaws.{run-reach, reach-run}
 use Rattle.theory.proofs.Ground.Lists.{map-in}
 use Rattle.theory.proofs.Ground.Counting.{Distinct, answers-count, ascending-distinct, distinct-map}

@@ -28,8 +28,9 @@ use Rattle.theory.proofs.Planning.PlanCount.{sources-split, sinks-split, plan-l
 use Rattle.workmap.specs.declared.Side.{Side}
 use Rattle.turns.specs.Turn.{All-below}
 use Rattle.pairing.specs.Pairs.{Pairable, Paired, Ordering-stands}
-use Rattle.links.specs.declared.Counts.{Counts}
-use Rattle.links.specs.Linking.{links-in, Held, Lists-apart, Linkable, Links-put}
+use Rattle.stations.specs.declared.Counts.{Counts}
+use Rattle.stations.specs.Stations.{Lists-apart}
+use Rattle.links.specs.Linking.{links-in, Held, Linkable, Links-put}
 use Rattle.links.proofs.Standing.{links-held}
 use Rattle.sides.specs.Sides.{Tallied, Tally}
 use Rattle.sides.proofs.Turning.{between-proper}

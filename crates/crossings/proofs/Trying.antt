@@ -12,7 +12,7 @@ use lib.ListN.{length, getD, drop, set, length-set}
 use lib.Seq.{getD-set-other, drop-set-lt}
 use Rattle.arranged.specs.Rows.{Sound, rows-of}
 use Rattle.arranged.specs.Marks.{Marked}
-use Rattle.arranged.proofs.Zeros.{below?}
+use Rattle.memory.proofs.Numbers.{below?}
 use Rattle.memory.proofs.Regions.{at-kept}
 use Rattle.workmap.specs.Map.{row-places, search-at, rows-at}
 use Rattle.search.specs.Marking.{Closed, Searchable, Searched}

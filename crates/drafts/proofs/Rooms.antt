@@ -17,7 +17,7 @@ use Rattle.rules.specs.declared.TroubleKind.the-variants.{Room}
 use Rattle.rules.specs.declared.Trouble.{Trouble}
 use Rattle.rules.specs.Answers.{refusal}
 use Rattle.rules.specs.Calls.{first-trouble, network-tests, room-test, asked-work, plan-trouble, records-trouble}
-use Rattle.arranged.proofs.Zeros.{below?}
+use Rattle.memory.proofs.Numbers.{below?}
 use Rattle.theory.proofs.Files.Troubles.{or-else, first-trouble-append}
 
 -- two lists are as long as asked exactly where the shorter one is

@@ -2,20 +2,18 @@
 --   ahead es r      a reading r of arcs, with the arcs es that were found before it
 --   turn-got        an arc that is found moves from what is ahead to what was found
 --   turn-bad        an arc that is refused is the refusal of the whole
+--   turn-whole      where the whole is found, so is the arc
 --   turns-over      past the last arc, what was found is all
---   arc-zones       tail and head of an arc that is found are below the zone count
 -- Assumes nothing.
 use Prim.Native.Nat.{ℕ, suc, _+_, _-_, _<_}
 use native.Mathlib.Omega.{arith}
 use mathlib.Core.Path.{_≡_, refl}
 use mathlib.Core.List.{List, [], _∷_, _++_, append-assoc, append-nil}
-use lib.Dec.{eqb}
 use Rattle.rules.specs.declared.Trouble.{Trouble}
 use Rattle.rules.specs.Network.{Arc}
 use Rattle.rules.specs.Number.{Reading, got, bad, then}
-use Rattle.rules.specs.File.{zone-at, arc-at, arcs-at}
-use Rattle.theory.proofs.Files.Readings.{then-got, unless-got}
-use Rattle.theory.proofs.Files.FileLaws.{zone-got}
+use Rattle.rules.specs.File.{arc-at, arcs-at}
+use Rattle.theory.proofs.Files.Readings.{then-got}
 
 -- A reading of arcs, with the arcs that were found before it.
 abbrev pub ahead : List Arc → Reading (List Arc) → Reading (List Arc)
@@ -49,19 +47,16 @@ module _ (s : List ℕ) (n m k at : ℕ) where
   unfolding arcs-at
   turn-bad es t h q = rw (left-suc m k h, q)
 
+  -- Where the whole is found, so is the arc.
+  pub turn-whole : (es : List Arc) {fs : List Arc} {end : ℕ} → k < m → ahead es (arcs-at s n (m - k) at) ≡ got fs end
+      → (e : Arc) × (next : ℕ) × (arc-at s n at ≡ got e next)
+  unfolding arcs-at
+  turn-whole es h q =
+      let r = then-got (arcs-at s n (suc (m - (k + 1))) at) _ (rw (left-suc m k h) at q) in
+      let f = then-got (arc-at s n at) _ (r .2) in
+      (f .0, f .1, f .2)
+
   -- Past the last arc, what was found is all.
   pub turns-over : (es : List Arc) → m - k ≡ 0 → ahead es (arcs-at s n (m - k) at) ≡ got es at
   unfolding arcs-at
   turns-over es h = rw (h, append-nil)
-
--- Tail and head of an arc that is found are below the zone count.
-pub arc-zones : (s : List ℕ) (n at : ℕ) (e : Arc) (next : ℕ) → arc-at s n at ≡ got e next
-    → (e .tail < n) × (e .head < n)
-unfolding arc-at
-arc-zones s n at e next q =
-    let p = then-got (zone-at s n at) _ q in
-    let p' = then-got (zone-at s n (p .1)) _ (p .3) in
-    let u = unless-got (eqb (p .0) (p' .0)) _ _ (p' .3) in
-    let t : p .0 ≡ e .tail = cc in
-    let h : p' .0 ≡ e .head = cc in
-    (rw t at (zone-got s n at (p .2) .0), rw h at (zone-got s n (p .1) (p' .2) .0))

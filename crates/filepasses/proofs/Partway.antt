@@ -1,21 +1,21 @@
 -- Part of the way through the pass that stores the arcs of an accepted file.
 --   Partway ..        k arcs were found and put into the lists, and the rest is ahead
 --   partway-start, partway-turn, partway-end   before the first turn, after one more turn, and after the last
---   partway-never     no arc of an accepted file is refused
+--   partway-due       before the last turn another arc of an accepted file is due
 -- A store at the end of what was put in is one more element of it. Assumes nothing.
 use Prim.Native.Nat.{ℕ, _+_, _-_, _≤_, _<_}
 use native.Mathlib.Omega.{arith}
-use mathlib.Core.Path.{_≡_, refl, ap, _∙_}
+use mathlib.Core.Path.{_≡_, refl, sym, ap, _∙_}
 use mathlib.Core.List.{List, [], _∷_, _++_, map, map-append}
 use lib.ListN.{length, set, length-append, length-map}
-use Rattle.rules.specs.declared.Trouble.{Trouble}
 use Rattle.rules.specs.Lists.{over}
 use Rattle.rules.specs.Network.{Arc, _⟶_}
-use Rattle.rules.specs.Number.{got, bad}
+use Rattle.rules.specs.Number.{got}
 use Rattle.rules.specs.File.{arc-at, arcs-at}
 use Rattle.filepasses.specs.Readings.{Accepted, Arcs-stored}
 use Rattle.filepasses.proofs.Overs.{over-more}
-use Rattle.filepasses.proofs.ArcTurns.{ahead, ahead-none, turn-got, turn-bad, turns-over}
+use Rattle.filepasses.proofs.ArcTurns.{ahead, ahead-none, turn-got, turn-whole, turns-over}
+use Rattle.filepasses.proofs.ArcsDue.{Due, arc-due}
 
 -- One more element of a result that is a part of each arc found.
 part-more : (f : Arc → ℕ) (es : List Arc) (e : Arc) (old : List ℕ) (k : ℕ) → length es ≡ k → k < length old
@@ -53,13 +53,9 @@ module _ {s : List ℕ} {n m from : ℕ} {ts₀ hs₀ : List ℕ} where
           heads = rw (p .heads) (part-more (λ (x : Arc). x .head) (p .arcs) e hs₀ k (p .count) (omega arith));
         }
 
-    -- No arc of an accepted file is refused.
-    pub partway-never : {t : Trouble} → k < m → Accepted (arcs-at s n m from) → arc-at s n at ≡ bad t → ⊥
-    partway-never {t} l w q =
-        let e : arcs-at s n m from ≡ bad t = p .found ∙ turn-bad s n m k at (p .arcs) t l q in
-        let e' : arcs-at s n m from ≡ got (w .0) (w .1) = w .2 in
-        let z : _≡_ {A = ℕ} 0 1 = cc in
-        omega arith
+    -- Before the last turn another arc is due.
+    pub partway-due : k < m → Accepted (arcs-at s n m from) → Due s n at
+    partway-due l w = arc-due s n at (turn-whole s n m k at (p .arcs) l (sym (p .found) ∙ w .2) .2)
 
     -- After the last turn every arc is in the lists.
     pub partway-end : m - k ≡ 0 → Arcs-stored (arcs-at s n m from) ts₀ hs₀ ts hs

@@ -1,6 +1,6 @@
 -- What the passes over the arcs of a file say and leave, in the words of the rules.
 --   Accepted r         a reading that finds something
---   Scanned a r        the answer a of the pass that tests says where the reading r ends, or its refusal
+--   Scanned a r        the answer a of a test says where the reading r ends, or its refusal
 --   Arcs-stored r ..   two lists after the arcs that a reading r finds were put into them
 use Prim.Native.Nat.{ℕ}
 use mathlib.Core.Path.{_≡_}
@@ -14,9 +14,9 @@ use Rattle.filepasses.specs.declared.ScanRead.{ScanRead}
 abbrev pub Accepted : Reading (List Arc) → Type 0
 Accepted r = (es : List Arc) × (end : ℕ) × (r ≡ got es end)
 
--- where the arcs end, or the refusal
-abbrev pub Scanned : ScanRead → Reading (List Arc) → Type 0
-Scanned (ScanRead.End c) r = (es : List Arc) × (r ≡ got es (c .at))
+-- where what is read ends, or the refusal
+abbrev pub Scanned : {A : Type 0} → ScanRead → Reading A → Type 0
+Scanned {A} (ScanRead.End c) r = (x : A) × (r ≡ got x (c .at))
 Scanned (ScanRead.Refused t) r = r ≡ bad t
 
 -- the lists ts' and hs' are ts and hs with the arcs put into them

@@ -1,37 +1,56 @@
 // The two passes over the arcs of a network file: one that only tests, and one that stores.
+//   one_arc  tests an arc: by a quick look, and closer where that does not do
 //   scan     tests the arcs of a file, one after the other
 //   store    puts the arcs of an accepted file into two lent lists
 ghost use Prim.Native.Nat.{_≤_};
 ghost use lib.ListN.{length};
-ghost use Rattle.rules.specs.File.{arcs-at};
+ghost use Rattle.rules.specs.File.{arc-at, arcs-at};
 ghost use Rattle.filepasses.specs.Readings.{Scanned, Accepted, Arcs-stored};
 use filearcs::ArcRead;
 use filearcs::arc;
+use fileknown::known;
+use filelook::ArcLook;
+use filelook::quick_arc;
 use filenumbers::Cursor;
 use rules::Trouble;
 
-// What the pass over the arcs finds: the cursor after the last of them, or the first refusal.
+// What testing arcs finds: the cursor after the last of them, or the first refusal.
 pub enum ScanRead {
     End(Cursor),
     Refused(Trouble),
 }
 
+// An arc: where it ends, or its refusal. Looked at closer only where a quick look does not find it good.
+fn one_arc(s: &[u8], c: Cursor, zones: usize) -> ScanRead
+    requires { ⌜ zones ≤ 1024 ⌝ }
+    ensures { λ r. ⌜ Scanned r (arc-at (now (s .entry)) zones (c .at)) ⌝ }
+{
+    match quick_arc(s, c.at, zones) {
+        ArcLook::Good(next) => return ScanRead::End(Cursor { at: next }),
+        ArcLook::Closer => match arc(s, c, zones) {
+            ArcRead::Refused(t) => return ScanRead::Refused(t),
+            ArcRead::Arc {
+                tail: _,
+                head: _,
+                next,
+            } => return ScanRead::End(next),
+        },
+    }
+}
+
 // The arcs of a file, one after the other: where they end, or the first refusal. Nothing is stored.
 pub fn scan(s: &[u8], from: Cursor, zones: usize, arcs: usize) -> ScanRead
+    requires { ⌜ zones ≤ 1024 ⌝ }
     ensures { λ r. ⌜ Scanned r (arcs-at (now (s .entry)) zones arcs (from .at)) ⌝ }
 {
     let mut c = from;
     let mut k = 0;
     while k < arcs {
-        match arc(s, c, zones) {
-            ArcRead::Refused(t) => {
+        match one_arc(s, c, zones) {
+            ScanRead::Refused(t) => {
                 return ScanRead::Refused(t);
             }
-            ArcRead::Arc {
-                tail: _,
-                head: _,
-                next,
-            } => {
+            ScanRead::End(next) => {
                 c = next;
             }
         }
@@ -55,19 +74,14 @@ pub fn store(
     ensures { λ _. ⌜ Arcs-stored (arcs-at (now (s .entry)) zones arcs (from .at))
         (now (tails .entry)) (now (heads .entry)) (now (tails .exit)) (now (heads .exit)) ⌝ }
 {
-    let mut c = from;
+    let mut at = from.at;
     let mut k = 0;
     while k < arcs {
-        match arc(s, c, zones) {
-            ArcRead::Refused(_) => {
-                return;
-            }
-            ArcRead::Arc { tail, head, next } => {
-                tails[k] = tail as u16;
-                heads[k] = head as u16;
-                c = next;
-            }
-        }
+        let tail = known(s, at);
+        let head = known(s, tail.next);
+        tails[k] = tail.value as u16;
+        heads[k] = head.value as u16;
+        at = head.next;
         k += 1;
     }
 }

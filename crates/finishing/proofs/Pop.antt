@@ -9,7 +9,7 @@ use mathlib.Core.Logic.{inl, inr, _≢_}
 use Prim.Native.Nat.{ℕ, _+_, _≤_, _<_}
 use native.Mathlib.Omega.{arith}
 use Rattle.arranged.specs.Rows.{Rows, Sound, Entry, Run}
-use Rattle.arranged.proofs.Zeros.{same?, below?}
+use Rattle.memory.proofs.Numbers.{same?, below?}
 use Rattle.descent.specs.Order.{Pair, In-order}
 use Rattle.descent.specs.Deep.{Live, Seen-listed, Deep}
 use Rattle.descent.proofs.Entries.{entry-head}

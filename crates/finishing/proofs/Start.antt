@@ -14,7 +14,7 @@ use Rattle.workmap.specs.declared.RowsAt.{RowsAt}
 use Rattle.workmap.specs.declared.OrderAt.{OrderAt}
 use Rattle.arranged.specs.Rows.{rows-of}
 use Rattle.arranged.specs.Marks.{zeros, Marked}
-use Rattle.arranged.proofs.Zeros.{same?, zeros-other, zeros-mark, zeros-none, zeros-clear}
+use Rattle.arranged.proofs.Zeros.{zeros-other, zeros-mark, zeros-none, zeros-clear}
 use Rattle.descent.specs.Deep.{Deep}
 use Rattle.memory.specs.Regions.{cell, part}
 use Rattle.memory.specs.Storing.{Copied}

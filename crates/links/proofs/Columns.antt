@@ -19,11 +19,12 @@ use Rattle.rules.specs.Plan.{Why, why-number, Link}
 use Rattle.memory.specs.Regions.{part, Holds}
 use Rattle.memory.specs.Storing.{Copied}
 use Rattle.memory.proofs.Regions.{part-long}
-use Rattle.links.specs.declared.Counts.{Counts}
+use Rattle.stations.specs.declared.Counts.{Counts}
 use Rattle.workmap.specs.declared.LinksAt.{LinksAt}
 use Rattle.workmap.specs.declared.Side.{Side}
 use Rattle.links.specs.Stores.{Joinable, Links-joined}
-use Rattle.links.specs.Linking.{stations-end, Linkable}
+use Rattle.stations.specs.Stations.{stations-end}
+use Rattle.links.specs.Linking.{Linkable}
 use Rattle.memory.proofs.Stores.{drop-sets, part-sets, holds-sets, holds-more}
 use Rattle.links.proofs.Shapes.{joins, joins-start, joins-end, joins-why, joins-long}
 

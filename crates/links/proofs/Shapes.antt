@@ -1,19 +1,16 @@
--- The lists of links as rows: what starts, ends and whys of `rings`, `chains` and `backs` are, and of which pieces the
--- chain's stations are made.
+-- The lists of links as rows: what starts, ends and whys of `rings`, `chains` and `backs` are.
 --   joins y xs ys    one link of why y from each of xs to the one of the same place in ys
 --   joins-start, joins-end, joins-why, joins-long   its starts are xs, its ends ys, its whys all y
 --   rings-joins, chains-joins, backs-joins   each of the three lists of links is such a row
---   last-sink-drop, first-of-take   the first and the last station
---   couples-v, couples-w, couples-pairs   pairs, taken apart and put together
+--   couples-pairs    pairs, taken apart and put together
 -- The idea: each by going through the lists. Assumes nothing.
 use mathlib.Core.Path.{_≡_, refl, ap, _∙_}
 use mathlib.Core.List.{List, [], _∷_, map}
 use Prim.Native.Nat.{ℕ, suc, _-_, _≤_}
 use native.Mathlib.Omega.{arith}
 use lib.ListN.{length, take, drop, replicate}
-use Rattle.rules.specs.Plan.{Couple, Why, ring, chain, back, why-number, Link}
-use Rattle.rules.specs.Plan.{rings, chains, backs, last-sink, first-of}
-use Rattle.links.specs.Linking.{couples}
+use Rattle.rules.specs.Plan.{Couple, Why, ring, chain, back, why-number, Link, rings, chains, backs}
+use Rattle.stations.specs.Stations.{couples}
 
 -- one link of why y from each of xs to the one of the same place in ys
 abbrev pub joins : Why → List ℕ → List ℕ → List Link
@@ -92,45 +89,6 @@ backs-joins [] (v ∷ vs) h = absurd (omega arith)
 backs-joins (w ∷ ws) [] h = refl
 backs-joins (w ∷ ws) (v ∷ vs) h =
     ap (λ (l : List Link). record { start = w; end = v; why = back } ∷ l) (backs-joins ws vs (omega arith))
-
--- the last sink of pairs, of which there are some
-last-some : (v w : ℕ) (vs ws : List ℕ) → length vs ≡ length ws →
-    last-sink (couples (v ∷ vs) (w ∷ ws)) ≡ drop (length ws) (w ∷ ws)
-unfolding last-sink
-last-some v w [] [] e = refl
-last-some v w [] (w' ∷ ws) e = absurd (omega arith)
-last-some v w (v' ∷ vs) [] e = absurd (omega arith)
-last-some v w (v' ∷ vs) (w' ∷ ws) e = last-some v' w' vs ws (omega arith)
-
--- the last sink of pairs is what is left of the sinks without all but the last
-pub last-sink-drop : (vs ws : List ℕ) → length vs ≡ length ws →
-    last-sink (couples vs ws) ≡ drop (length ws - 1) ws
-unfolding last-sink
-last-sink-drop [] [] e = refl
-last-sink-drop [] (w ∷ ws) e = absurd (omega arith)
-last-sink-drop (v ∷ vs) [] e = absurd (omega arith)
-last-sink-drop (v ∷ vs) (w ∷ ws) e =
-    last-some v w vs ws (omega arith)
-    ∙ ap (λ (k : ℕ). drop k (w ∷ ws)) {x = length ws} {y = suc (length ws) - 1} (omega arith)
-
--- the first of a list is its front of one element
-pub first-of-take : (xs : List ℕ) → first-of xs ≡ take 1 xs
-unfolding first-of
-first-of-take [] = refl
-first-of-take (a ∷ xs) = refl
-
--- the sources of pairs
-pub couples-v : (vs ws : List ℕ) → length vs ≡ length ws → map (λ (a : Couple). a .v) (couples vs ws) ≡ vs
-couples-v [] ws e = refl
-couples-v (v ∷ vs) [] e = absurd (omega arith)
-couples-v (v ∷ vs) (w ∷ ws) e = ap (λ (l : List ℕ). v ∷ l) (couples-v vs ws (omega arith))
-
--- the sinks of pairs
-pub couples-w : (vs ws : List ℕ) → length vs ≡ length ws → map (λ (a : Couple). a .w) (couples vs ws) ≡ ws
-couples-w [] [] e = refl
-couples-w [] (w ∷ ws) e = absurd (omega arith)
-couples-w (v ∷ vs) [] e = absurd (omega arith)
-couples-w (v ∷ vs) (w ∷ ws) e = ap (λ (l : List ℕ). w ∷ l) (couples-w vs ws (omega arith))
 
 -- pairs are the pairs of their sources and their sinks
 pub couples-pairs : (cs : List Couple) →

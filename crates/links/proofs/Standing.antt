@@ -8,7 +8,7 @@ use Prim.Native.Nat.{ℕ}
 use lib.ListN.{length, length-map}
 use Rattle.rules.specs.Plan.{Couple, Ordering, links}
 use Rattle.memory.specs.Regions.{part, Holds}
-use Rattle.links.specs.declared.Counts.{Counts}
+use Rattle.stations.specs.declared.Counts.{Counts}
 use Rattle.workmap.specs.declared.Side.{Side}
 use Rattle.links.specs.Linking.{links-in, Held}
 use Rattle.links.proofs.Shapes.{couples-pairs}

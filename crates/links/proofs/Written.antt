@@ -13,14 +13,14 @@ use lib.Seq.{length-sets}
 use Rattle.rules.specs.Plan.{ring, chain, back, rings, chains, backs, stations, links}
 use Rattle.memory.specs.Regions.{part}
 use Rattle.memory.proofs.Regions.{part-long, part-take, part-drop, part-kept}
-use Rattle.links.specs.declared.Counts.{Counts}
+use Rattle.stations.specs.declared.Counts.{Counts}
 use Rattle.workmap.specs.declared.Side.{Side}
 use Rattle.links.specs.Stores.{Joinable, Links-joined}
-use Rattle.links.specs.Linking.{couples, stations-in, links-in, stations-end}
-use Rattle.links.specs.Linking.{Lists-apart, Stationed, Linkable, Links-put}
+use Rattle.stations.specs.Stations.{couples, stations-in, stations-end, Lists-apart, Stationed}
+use Rattle.links.specs.Linking.{links-in, Linkable, Links-put}
 use Rattle.memory.proofs.Stores.{drop-sets, sets-holds}
 use Rattle.links.proofs.Shapes.{rings-joins, chains-joins, backs-joins}
-use Rattle.links.proofs.Pieces.{as-many, stations-long}
+use Rattle.stations.proofs.Pieces.{as-many, stations-long}
 use Rattle.links.proofs.Columns.{Row-of, row-joins, Inside, Wrote, wrote-none, wrote-more, joinable}
 
 -- a part without its first element

@@ -1,4 +1,5 @@
--- Laws of parts of lent work memory, and of stores, copies and fills.
+-- Numbers compared, and laws of parts of lent work memory, of stores, copies and fills.
+pub mod Numbers
 pub mod Regions
 pub mod Stores
 pub mod Places

@@ -1,6 +1,5 @@
--- What storing in lent work memory asks and leaves. `sets l i xs` is the list l after stores of the elements of xs, one
--- behind the other, from index i on.
---   Stored v w at hs n   w is v with hs stored from `at` on, and n is the place behind them
+-- What copying in lent work memory asks and leaves. `sets l i xs` is the list l after stores of the elements of xs,
+-- one behind the other, from index i on.
 --   Copyable, Copied     n elements go to lower places
 use mathlib.Core.Path.{_≡_}
 use mathlib.Core.List.{List}
@@ -8,11 +7,6 @@ use Prim.Native.Nat.{ℕ, _+_, _≤_}
 use lib.ListN.{length}
 use lib.Seq.{sets}
 use Rattle.memory.specs.Regions.{part}
-
--- the list hs stands in the memory from `at` on, everything else is as it was, and `next` is the place behind
-pub record Stored (before after : List ℕ) (at : ℕ) (hs : List ℕ) (next : ℕ) : Type 0 where
-  pub memory : after ≡ sets before at hs
-  pub behind : next ≡ at + length hs
 
 -- n elements can be copied to lower places: the two stretches do not meet
 pub record Copyable (w : List ℕ) (from n to : ℕ) : Type 0 where

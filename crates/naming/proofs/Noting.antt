@@ -6,7 +6,7 @@ use mathlib.Core.Path.{_≡_, sym, ap, _∙_}
 use mathlib.Core.Logic.{_⊎_, inl, inr, _≢_}
 use Prim.Native.Nat.{ℕ, _+_, _<_}
 use native.Mathlib.Omega.{arith}
-use Rattle.arranged.proofs.Zeros.{same?, below?}
+use Rattle.memory.proofs.Numbers.{same?, below?}
 use Rattle.naming.specs.Naming.{First, Naming}
 
 -- Two zones that are the lowest of one root are one.

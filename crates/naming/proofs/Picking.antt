@@ -4,7 +4,7 @@ use mathlib.Core.Path.{_≡_, sym, ap, _∙_}
 use mathlib.Core.Logic.{inl, inr, _≢_}
 use Prim.Native.Nat.{ℕ, _+_, _<_}
 use native.Mathlib.Omega.{arith}
-use Rattle.arranged.proofs.Zeros.{same?}
+use Rattle.memory.proofs.Numbers.{same?}
 use Rattle.search.specs.Marking.{Queued}
 use Rattle.naming.specs.Picks.{Rise, Picks}
 

@@ -22,7 +22,7 @@ use Rattle.theory.proofs.Files.Troubles.{passes, both-pass}
 use Rattle.theory.proofs.Files.Accepting.{fine}
 use Rattle.workmap.specs.Map.{map-of}
 use Rattle.arranged.specs.Ready.{Readyable}
-use Rattle.questions.specs.Questions.{Askable, Answered}
+use Rattle.reaching.specs.Questions.{Askable, Answered}
 
 -- a network and a memory without trouble are ready for every search
 pub tests-ready : (n : ℕ) (ts hs w : List ℕ) → first-trouble (network-tests n ts hs) ≡ none →

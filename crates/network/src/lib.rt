@@ -3,10 +3,10 @@
 ghost use Rattle.rules.specs.Answers.{strong-told, reach-told};
 ghost use Rattle.rules.specs.Promises.{Strong-promise, Reach-promise};
 use probes::Tested;
-use questions::joined;
-use questions::reached;
+use reaching::reached;
 use rules::ReachAnswer;
 use rules::StrongAnswer;
+use strength::joined;
 use workmap::map_of;
 
 // STRONG: whether every zone reaches every zone.

@@ -11,7 +11,7 @@ use native.Mathlib.Omega.{arith}
 use lib.ListN.{length, getD, set}
 use lib.Seq.{getD-set-same, getD-set-other}
 use Rattle.arranged.specs.Marks.{Marked}
-use Rattle.arranged.proofs.Zeros.{same?}
+use Rattle.memory.proofs.Numbers.{same?}
 
 module _ (w : List ℕ) (at d : ℕ) (inside : at + d < length w) where
   -- every other mark is as it was

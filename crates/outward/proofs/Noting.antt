@@ -14,7 +14,7 @@ use native.Mathlib.Omega.{arith}
 use lib.ListN.{length, getD, drop, set, length-set}
 use lib.Seq.{take-set-le, drop-set-lt}
 use Rattle.workmap.specs.Map.{rows-at}
-use Rattle.arranged.proofs.Zeros.{below?}
+use Rattle.memory.proofs.Numbers.{below?}
 use Rattle.memory.proofs.Regions.{at-kept}
 use Rattle.memory.proofs.Places.{drop-deeper}
 use Rattle.search.proofs.Course.{laid-same}

@@ -22,7 +22,7 @@ use Rattle.theory.proofs.Reaching.Components.{
   name-name,
 }
 use Rattle.theory.proofs.Skeletons.SkeletonLaws.{Follows, follows-true, true-follows}
-use Rattle.arranged.proofs.Zeros.{below?}
+use Rattle.memory.proofs.Numbers.{below?}
 use Rattle.outward.specs.Standing.{name-at}
 use Rattle.crossings.specs.Named.{Named}
 use Rattle.crossings.proofs.NamedLaws.{zone-in, in-zone, named-proper}

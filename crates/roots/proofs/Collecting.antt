@@ -15,7 +15,8 @@ use Rattle.workmap.specs.declared.OrderAt.{OrderAt}
 use Rattle.memory.specs.Regions.{cell}
 use Rattle.arranged.specs.Rows.{Entry, rows-of}
 use Rattle.arranged.specs.Marks.{Marked}
-use Rattle.arranged.proofs.Zeros.{same?, zeros-none, zeros-clear}
+use Rattle.memory.proofs.Numbers.{same?}
+use Rattle.arranged.proofs.Zeros.{zeros-none, zeros-clear}
 use Rattle.search.specs.Marking.{Closed, Spreadable, Spread}
 use Rattle.search.proofs.Keeping.{kept-same, kept-then, kept-at, kept-rows}
 use Rattle.search.proofs.Course.{laid-same}

@@ -16,7 +16,7 @@ use Rattle.workmap.specs.declared.SearchAt.{SearchAt}
 use Rattle.memory.specs.Regions.{cell}
 use Rattle.arranged.specs.Rows.{Rows, Sound, Entry, Run, rows-of}
 use Rattle.arranged.specs.Marks.{Marked}
-use Rattle.arranged.proofs.Zeros.{same?, below?}
+use Rattle.memory.proofs.Numbers.{same?, below?}
 use Rattle.search.specs.Marking.{Queued, Met, Spread}
 use Rattle.descent.specs.Order.{Ended-ordered}
 use Rattle.descent.proofs.Entries.{entry-head}

@@ -12,7 +12,7 @@ use mathlib.Core.Logic.{_⊎_, inl, inr, _↔_}
 use Prim.Native.Nat.{ℕ, pred, _+_, _≤_, _<_}
 use native.Mathlib.Omega.{arith}
 use Rattle.arranged.specs.Rows.{Run}
-use Rattle.arranged.proofs.Zeros.{same?, below?}
+use Rattle.memory.proofs.Numbers.{same?, below?}
 use Rattle.descent.specs.Order.{Ended-ordered, In-order}
 use Rattle.descent.proofs.Entries.{run-trans}
 use Rattle.roots.specs.Pass.{Back, Mutual, Pass}

@@ -18,7 +18,8 @@ use Rattle.workmap.specs.Map.{row-places, search-places}
 use Rattle.memory.specs.Regions.{cell}
 use Rattle.arranged.specs.Rows.{Entry, Run, further, here}
 use Rattle.arranged.specs.Marks.{Marked}
-use Rattle.arranged.proofs.Zeros.{same?, zeros-few}
+use Rattle.memory.proofs.Numbers.{same?}
+use Rattle.arranged.proofs.Zeros.{zeros-few}
 use Rattle.search.specs.Marking.{rows-in, Laid, Row-marked, Closed, Searchable, Searched, Spreadable, Spreading}
 use Rattle.search.specs.Marking.{Spread, Visitable, Visited}
 use Rattle.search.proofs.Keeping.{kept-rows, head-at, start-at, stop-at}

@@ -15,7 +15,8 @@ use Rattle.workmap.specs.declared.SearchAt.{SearchAt}
 use Rattle.memory.specs.Regions.{cell}
 use Rattle.arranged.specs.Rows.{Entry, Run}
 use Rattle.arranged.specs.Marks.{Marked, zeros}
-use Rattle.arranged.proofs.Zeros.{same?, below?, zeros-other, zeros-mark}
+use Rattle.memory.proofs.Numbers.{same?, below?}
+use Rattle.arranged.proofs.Zeros.{zeros-other, zeros-mark}
 use Rattle.search.specs.Marking.{Kept, rows-in, Row-marked, Queued, Met, Spreadable, Spreading}
 use Rattle.search.proofs.Keeping.{kept-same, kept-then, kept-marks, kept-queue}
 

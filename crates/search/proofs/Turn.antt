@@ -12,7 +12,7 @@ use Rattle.workmap.specs.declared.RowsAt.{RowsAt}
 use Rattle.workmap.specs.declared.SearchAt.{SearchAt}
 use Rattle.arranged.specs.Marks.{Marked, First-in}
 use Rattle.arranged.specs.declared.Found.the-variants.{At, Nothing}
-use Rattle.arranged.proofs.Zeros.{below?}
+use Rattle.memory.proofs.Numbers.{below?}
 use Rattle.search.specs.Marking.{Visitable, Visited}
 use Rattle.search.proofs.Keeping.{kept-same, kept-then, kept-at}
 use Rattle.search.proofs.Join.{Join, joined-fewer, joined-mark, joined-put-other, joined-more, joined-kept}

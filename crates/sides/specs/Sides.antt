@@ -16,8 +16,8 @@ use Rattle.rules.specs.Network.{Arc, Network, network-of, strong}
 use Rattle.rules.specs.Components.{sources, sinks}
 use Rattle.rules.specs.Plan.{Ordering, Link, turned-link, upright, upright-plan, plan}
 use Rattle.rules.specs.Calls.{arcs-of}
-use Rattle.links.specs.declared.Counts.{Counts}
-use Rattle.links.specs.Linking.{stations-end}
+use Rattle.stations.specs.declared.Counts.{Counts}
+use Rattle.stations.specs.Stations.{stations-end}
 use Rattle.workmap.specs.declared.Map.{Map}
 use Rattle.workmap.specs.declared.Side.{Side}
 use Rattle.sides.specs.Standing.{Side-stands, Both-ways, Columns}

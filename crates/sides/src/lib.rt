@@ -1,6 +1,6 @@
 // The side on which the plan rule runs: as given, or turned round where there are more sources than sinks. And how
 // many of each the links are made of, once its pairs are made.
-use links::Counts;
+use stations::Counts;
 use workmap::LinksAt;
 use workmap::ListsAt;
 use workmap::Map;

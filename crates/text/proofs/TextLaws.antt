@@ -1,34 +1,27 @@
 -- Laws of linkplan's text: it is the text of the rules, and how long it is at most.
---   refusal-put       a refusal's line, as it is put
---   figures-of g      the numbers above the links of the plan of g
---   plan-lines-text   the lines of a plan, as they are put
---   plan-put          the same over the numbers of the plan's links
---   refusal-length, plan-text-length   how long they are at most
--- The idea: brackets of ++ are moved, and a number has at most 20 digits.
+--   figures-of g       the numbers above the links of the plan of g
+--   plan-lines-text    the lines of a plan, as they are put
+--   plan-put           the same over the numbers of the plan's links
+--   plan-text-length   how long they are at most
+-- The idea: brackets of ++ are moved.
 -- Assumes nothing.
 use Prim.Native.Nat.{ℕ, _+_, _≤_}
 use mathlib.Core.Path.{_≡_, sym}
 use mathlib.Core.List.{List, _++_, map, append-assoc}
 use native.Mathlib.Omega.{arith}
 use lib.ListN.{length, length-append}
-use Rattle.rules.specs.declared.Trouble.{Trouble}
-use Rattle.rules.specs.Answers.{trouble-number}
 use Rattle.rules.specs.Network.{Network, network-of}
 use Rattle.rules.specs.Components.{sources, sinks, alone}
 use Rattle.rules.specs.Plan.{Link, why-number, plan, plan-pairs, plan-need}
 use Rattle.rules.specs.File.{Given}
-use Rattle.rules.specs.Text.{word, decimal, link-lines, plan-lines, refusal-line}
+use Rattle.rules.specs.Text.{word, decimal, link-lines, plan-lines}
 use Rattle.buffer.specs.Words.{labelled, two}
-use Rattle.buffer.proofs.Lengths.{two-parts, labelled-length, two-length}
 use Rattle.lines.specs.Lines.{lines-of}
 use Rattle.lines.proofs.Links.{links-lines}
-use Rattle.text.specs.declared.Figures.{Figures}
-use Rattle.text.specs.Texts.{head-text, plan-text, refusal-text}
-
--- a refusal's line, as it is put
-pub refusal-put : (t : Trouble) → refusal-line t ≡ refusal-text (trouble-number (t .kind)) (t .place)
-unfolding refusal-line refusal-text
-refusal-put t = sym (two-parts (word "refused ") (trouble-number (t .kind)) (word " at ") (t .place) (word "\n"))
+use Rattle.phrases.specs.declared.Figures.{Figures}
+use Rattle.phrases.specs.Phrases.{head-text}
+use Rattle.phrases.proofs.PhraseLaws.{head-length}
+use Rattle.text.specs.Texts.{plan-text}
 
 -- the lines of a plan of these numbers, as the rules write them
 plan-parts : (f : Figures) (lines : List ℕ)
@@ -69,36 +62,6 @@ pub plan-put : (g : Given) (f t w : List ℕ) →
     (map (λ (l : Link). why-number (l .why)) (plan N) ++ w) (length (plan N)))
     ≡ plan-lines g
 plan-put g f t w = rw (links-lines (plan (network-of (g .zones) (g .arcs))) f t w) (sym (plan-lines-text g))
-
--- a refusal's line has at most 53 bytes
-pub refusal-length : (k place : ℕ) → length (refusal-text k place) ≤ 53
-unfolding word refusal-text
-refusal-length k place =
-    omega (
-      arith,
-      two-length (word "refused ") k (word " at ") place,
-      length-append (two (word "refused ") k (word " at ") place) (word "\n"),
-    )
-
--- the lines above the links have at most 189 bytes
-head-length : (f : Figures) → length (head-text f) ≤ 189
-unfolding head-text word
-head-length f =
-    let first = two (word "zones ") (f .zones) (word " arcs ") (f .arcs) in
-    let second = two (word "\nsources ") (f .sources) (word " sinks ") (f .sinks) in
-    let third = two (word " alone ") (f .alone) (word " pairs ") (f .pairs) in
-    let fourth = labelled (word "\nneed ") (f .need) in
-    omega (
-      arith,
-      two-length (word "zones ") (f .zones) (word " arcs ") (f .arcs),
-      two-length (word "\nsources ") (f .sources) (word " sinks ") (f .sinks),
-      two-length (word " alone ") (f .alone) (word " pairs ") (f .pairs),
-      labelled-length (word "\nneed ") (f .need),
-      length-append first (second ++ (third ++ (fourth ++ word "\n"))),
-      length-append second (third ++ (fourth ++ word "\n")),
-      length-append third (fourth ++ word "\n"),
-      length-append fourth (word "\n"),
-    )
 
 -- the lines of a plan have at most 194 bytes beside those of the links
 pub plan-text-length : (f : Figures) (lines : List ℕ) → length (plan-text f lines) ≤ 194 + length lines

@@ -1,7 +1,5 @@
 -- linkplan's text over numbers, as its functions put it.
---   head-text f         the lines above the links
 --   plan-text f lines   all lines of a plan, with the lines of its links handed in
---   refusal-text k at   the one line of a refusal, from its number and its place
 --   Putable ..          what is printed for an answer of PLAN fits
 --   answer-lines ..     what is printed for it: the lines of a plan over the three lists, or the line of a refusal
 -- Assumes nothing.
@@ -10,25 +8,13 @@ use mathlib.Core.List.{List, _++_}
 use lib.ListN.{length}
 use Rattle.rules.specs.declared.PlanAnswer.{PlanAnswer}
 use Rattle.rules.specs.Text.{word, refusal-line}
-use Rattle.buffer.specs.Words.{labelled, two}
 use Rattle.lines.specs.Lines.{lines-of}
-use Rattle.text.specs.declared.Figures.{Figures}
-
--- the lines above the links: zone and arc counts; s, t, q, p; the number of links
-unfoldable pub head-text : Figures → List ℕ
-head-text f =
-    two (word "zones ") (f .zones) (word " arcs ") (f .arcs)
-    ++ (two (word "\nsources ") (f .sources) (word " sinks ") (f .sinks)
-    ++ (two (word " alone ") (f .alone) (word " pairs ") (f .pairs)
-    ++ (labelled (word "\nneed ") (f .need) ++ word "\n")))
+use Rattle.phrases.specs.declared.Figures.{Figures}
+use Rattle.phrases.specs.Phrases.{head-text}
 
 -- all lines of a plan: the head, the lines of the links, and done
 unfoldable pub plan-text : Figures → List ℕ → List ℕ
 plan-text f lines = head-text f ++ (lines ++ word "done\n")
-
--- the one line of a refusal with this number, at this place
-unfoldable pub refusal-text : ℕ → ℕ → List ℕ
-refusal-text number place = two (word "refused ") number (word " at ") place ++ word "\n"
 
 -- k links stand in the three lists, and the buffer has room for their lines
 pub record Links-fit (k : ℕ) (starts ends whys out : List ℕ) : Type 0 where

@@ -14,7 +14,7 @@ use lib.ListN.{length, getD, set, length-set, length-take, length-drop, length-a
 use lib.Seq.{getD-set-same, getD-set-other}
 use Rattle.memory.specs.Regions.{Holds}
 use Rattle.memory.proofs.Regions.{holds-of, holds-at, holds-fits}
-use Rattle.arranged.proofs.Zeros.{below?, same?}
+use Rattle.memory.proofs.Numbers.{below?, same?}
 use Rattle.turns.specs.Turn.{Taken-out, without, All-below}
 
 -- nothing is moved yet

@@ -3,12 +3,11 @@
 use Prim.Native.Nat.{_≤_, _-_}
 use native.Mathlib.Omega.{arith}
 use mathlib.Core.List.{List, [], _∷_, _++_}
-use mathlib.Core.Path.{_≡_, sym, ap, _∙_}
+use mathlib.Core.Path.{_≡_, _∙_}
 use borrow.Author.Needs.{needs}
 use Rattle.filepasses.proofs.ArcTurns.{ahead, ahead-none, turn-got, turn-bad, turns-over}
-use Rattle.filearcs.specs.Readings.{arc-reading}
 use Rattle.rules.specs.File.{arcs-at}
-use Rattle.rules.specs.Network.{Arc, _⟶_}
+use Rattle.rules.specs.Network.{Arc}
 use Rattle.filepasses.proofs.scan.Statement.{statement}
 use Rattle.filepasses.proofs.scan.Tie as tie
 
@@ -25,8 +24,8 @@ loop-holds c =
     let e : a .arcs - 0 ≡ a .arcs = omega arith in
     (search needs, [], rw e (ahead-none _))
 
-arc-requires : tie.Need-arc-requires Inv-loop μ-loop
-arc-requires c κs = search needs
+one-arc-requires : tie.Need-one-arc-requires Inv-loop μ-loop
+one-arc-requires c κs = search needs
 
 enum-known-t : tie.Need-enum-known-t Inv-loop μ-loop
 enum-known-t c = search needs
@@ -35,7 +34,7 @@ returns : tie.Need-returns Inv-loop μ-loop
 returns c =
     let a = c .before .before .before .before .before .before .before .args in
     let l = c .before .before .before .before .before .loop in
-    let e = sym (c .before .before .before .arc .ensures) ∙ ap arc-reading (c .before .t .given .1) in
+    let e = rw (c .before .t .given .1) at (c .before .before .before .one-arc .ensures) in
     l .inv .2 ∙ turn-bad (a .s .now) (a .zones) (a .arcs) (l .k) (l .c .at) (l .inv .1) _ (omega arith) e
 
 enum-known-next : tie.Need-enum-known-next Inv-loop μ-loop
@@ -51,11 +50,10 @@ loop-again : tie.Need-loop-again Inv-loop μ-loop
 loop-again c =
     let a = c .before .before .before .before .before .before .before .args in
     let l = c .before .before .before .before .before .loop in
-    let f = c .before .next .given .0 in
-    let e = sym (c .before .before .before .arc .ensures) ∙ ap arc-reading (c .before .next .given .1) in (
+    let e = rw (c .before .next .given .1) at (c .before .before .before .one-arc .ensures) in (
       search needs,
-      l .inv .1 ++ ((f .0 ⟶ f .1 .0) ∷ []),
-      l .inv .2 ∙ turn-got (a .s .now) (a .zones) (a .arcs) (l .k) (l .c .at) (l .inv .1) _ _ (omega arith) e,
+      l .inv .1 ++ (e .0 ∷ []),
+      l .inv .2 ∙ turn-got (a .s .now) (a .zones) (a .arcs) (l .k) (l .c .at) (l .inv .1) _ _ (omega arith) (e .1),
     )
 
 returns-2 : tie.Need-returns-2 Inv-loop μ-loop
@@ -71,7 +69,7 @@ scan-spec =
     Inv-loop
     μ-loop
     loop-holds
-    arc-requires
+    one-arc-requires
     enum-known-t
     returns
     enum-known-next

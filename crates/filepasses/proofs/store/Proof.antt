@@ -1,81 +1,62 @@
--- `store` meets its contract. The loop's invariant: `k` arcs are in the lists, and the rest is ahead at `c`.
+-- `store` meets its contract. The loop's invariant: `k` arcs are in the lists, and the rest is ahead at `at`.
 -- Assumes nothing.
 use Prim.Native.Nat.{_≤_, _<_, _-_}
 use native.Mathlib.Omega.{arith}
-use mathlib.Core.Path.{_≡_, refl, sym, ap, _∙_}
+use mathlib.Core.Path.{_≡_, refl}
 use lib.ListN.{length, length-set}
 use borrow.Author.Needs.{needs}
 use Rattle.rules.specs.Network.{_⟶_}
 use Rattle.rules.specs.Number.{got}
 use Rattle.rules.specs.File.{arc-at}
-use Rattle.filepasses.proofs.Partway.{Partway, partway-start, partway-turn, partway-never, partway-end}
-use Rattle.filepasses.proofs.ArcTurns.{arc-zones}
-use Rattle.filearcs.specs.Readings.{arc-reading}
+use Rattle.filepasses.proofs.ArcsDue.{Due, due-tail, due-head, due-arc}
+use Rattle.filepasses.proofs.Partway.{Partway, partway-start, partway-turn, partway-due, partway-end}
 use Rattle.filepasses.proofs.store.Statement.{statement}
 use Rattle.filepasses.proofs.store.Tie as tie
 
 abbrev Inv-loop : tie.InvT-loop
-Inv-loop s zones arcs tails₀ heads₀ c₀ k₀ tails heads c k =
+Inv-loop s zones arcs tails₀ heads₀ at₀ k₀ tails heads at k =
     (k ≤ arcs)
     × (length tails ≡ length tails₀)
     × (length heads ≡ length heads₀)
-    × Partway s zones arcs (c₀ .at) tails₀ heads₀ tails heads (c .at) k
+    × Partway s zones arcs at₀ tails₀ heads₀ tails heads at k
 
 abbrev μ-loop : tie.MeasureT-loop
-μ-loop s zones arcs tails₀ heads₀ c₀ k₀ tails heads c k = arcs - k
+μ-loop s zones arcs tails₀ heads₀ at₀ k₀ tails heads at k = arcs - k
+
+-- a turn of the loop
+abbrev Turn : Type 0
+Turn = tie.In-loop Inv-loop μ-loop
+
+-- the function's entry, from there
+abbrev entry : Turn → tie.Start Inv-loop μ-loop
+entry c = c .before .before .before .before .before
+
+-- an arc is due there
+turn-due : (c : Turn) → Due (entry c .args .s .now) (entry c .args .zones) (c .before .loop .at)
+turn-due c = partway-due (c .before .loop .inv .3) (omega arith) (entry c .pre .1 .1)
+
+-- the tail and the head that were read are those of the arc, and zones
+arc-read : (c : tie.After-known2 Inv-loop μ-loop) →
+    let l = c .before .before in
+    let n = entry l .args .zones in
+    let t = c .before .known .result in
+    let h = c .known2 .result in
+    (arc-at (entry l .args .s .now) n (l .before .loop .at) ≡ got (t .value ⟶ h .value) (h .next))
+    × (t .value < n)
+    × (h .value < n)
+arc-read c = due-arc (turn-due (c .before .before)) (c .before .known .ensures) (c .known2 .ensures)
 
 loop-holds : tie.Need-loop-holds Inv-loop μ-loop
 loop-holds c = (search needs, refl, refl, partway-start)
 
-arc-requires : tie.Need-arc-requires Inv-loop μ-loop
-arc-requires c κs = search needs
+known-requires : tie.Need-known-requires Inv-loop μ-loop
+known-requires c κs = due-tail (turn-due c) (entry c .pre .0)
 
-enum-told : tie.Need-enum-told Inv-loop μ-loop
-enum-told c = search needs
-
-same-length : tie.Need-same-length Inv-loop μ-loop
-same-length c = search needs
-
-same-length-2 : tie.Need-same-length-2 Inv-loop μ-loop
-same-length-2 c = search needs
-
-returns : tie.Need-returns Inv-loop μ-loop
-returns c =
-    let b = c .before .before .before .before .before .before .before .before in
-    let l = c .before .before .before .before .loop in
-    let e = sym (c .before .before .arc .ensures) ∙ ap arc-reading (c .enum-told .given .1) in
-    absurd (partway-never (l .inv .3) (omega arith) (b .pre .1 .1) e)
-
-enum-known-tail : tie.Need-enum-known-tail Inv-loop μ-loop
-enum-known-tail c = search needs
-
--- the tail that was read
-abbrev Tailed : Type 0
-Tailed = tie.After-tail Inv-loop μ-loop
-
--- the function's entry, from there
-abbrev entry : Tailed → tie.Start Inv-loop μ-loop
-entry c = c .before .before .before .before .before .before .before .before
-
--- the arc that was read is the one at the cursor
-arc-read : (c : Tailed) →
-    let a = entry c .args in
-    let f = c .tail .given .0 in
-    arc-at (a .s .now) (a .zones) (c .before .before .before .before .loop .c .at)
-    ≡ got (f .0 ⟶ f .1 .0) (f .1 .1 .0 .at)
-arc-read c = sym (c .before .before .arc .ensures) ∙ ap arc-reading (c .tail .given .1)
-
--- so its tail and its head are zones
-zones-read : (c : Tailed) →
-    let n = entry c .args .zones in
-    let f = c .tail .given .0 in
-    (f .0 < n) × (f .1 .0 < n)
-zones-read c =
-    let a = entry c .args in
-    arc-zones (a .s .now) (a .zones) (c .before .before .before .before .loop .c .at) _ _ (arc-read c)
+known-requires-2 : tie.Need-known-requires-2 Inv-loop μ-loop
+known-requires-2 c κs = due-head (turn-due (c .before)) (c .known .ensures) (entry (c .before) .pre .0)
 
 cast-tails : tie.Need-cast-tails Inv-loop μ-loop
-cast-tails c = omega (arith, zones-read (c .before))
+cast-tails c = omega (arith, arc-read (c .before))
 
 mul-tails : tie.Need-mul-tails Inv-loop μ-loop
 mul-tails c = search needs
@@ -84,7 +65,7 @@ slice-write-tails : tie.Need-slice-write-tails Inv-loop μ-loop
 slice-write-tails c = search needs
 
 cast-heads : tie.Need-cast-heads Inv-loop μ-loop
-cast-heads c = omega (arith, zones-read (c .before))
+cast-heads c = omega (arith, arc-read (c .before .before))
 
 mul-heads : tie.Need-mul-heads Inv-loop μ-loop
 mul-heads c = search needs
@@ -100,21 +81,22 @@ loop-less c = search needs
 
 loop-again : tie.Need-loop-again Inv-loop μ-loop
 loop-again c =
-    let l = c .before .before .before .before .before .loop in (
+    let r = c .before .before in
+    let l = r .before .before .before .loop in (
       search needs,
       simp length-set (l .inv .1),
       simp length-set (l .inv .2),
-      partway-turn (l .inv .3) (omega arith) (omega arith) (omega arith) (arc-read (c .before)),
+      partway-turn (l .inv .3) (omega arith) (omega arith) (omega arith) (arc-read r .0),
     )
 
-same-length-3 : tie.Need-same-length-3 Inv-loop μ-loop
-same-length-3 c = search needs
+same-length : tie.Need-same-length Inv-loop μ-loop
+same-length c = search needs
 
-same-length-4 : tie.Need-same-length-4 Inv-loop μ-loop
-same-length-4 c = search needs
+same-length-2 : tie.Need-same-length-2 Inv-loop μ-loop
+same-length-2 c = search needs
 
-returns-2 : tie.Need-returns-2 Inv-loop μ-loop
-returns-2 c = partway-end (c .before .loop .inv .3) (omega arith)
+returns : tie.Need-returns Inv-loop μ-loop
+returns c = partway-end (c .before .loop .inv .3) (omega arith)
 
 pub store-spec : {M : Type 1} → statement M
 store-spec =
@@ -123,12 +105,8 @@ store-spec =
     Inv-loop
     μ-loop
     loop-holds
-    arc-requires
-    enum-told
-    same-length
-    same-length-2
-    returns
-    enum-known-tail
+    known-requires
+    known-requires-2
     cast-tails
     mul-tails
     slice-write-tails
@@ -138,6 +116,6 @@ store-spec =
     add-k
     loop-less
     loop-again
-    same-length-3
-    same-length-4
-    returns-2)
+    same-length
+    same-length-2
+    returns)

@@ -5,7 +5,7 @@ use native.Mathlib.Omega.{arith}
 use Prim.Native.Nat.{ℕ, _+_, _≤_, _<_, _-_}
 use mathlib.Core.Logic.{inl, inr}
 use Rattle.arranged.specs.Marks.{Marked}
-use Rattle.arranged.proofs.Zeros.{same?}
+use Rattle.memory.proofs.Numbers.{same?}
 use Rattle.descent.specs.Memory.{State, Order-kept}
 use Rattle.descent.proofs.Keeping.{kept-none, order-kept-then, ready-kept}
 use Rattle.finishing.proofs.Start.{all-ended}

@@ -8,7 +8,7 @@ use Rattle.probes.specs.Tested.{tested-trouble}
 use Rattle.theory.proofs.Files.Accepting.{fine-few}
 use lib.ListN.{length}
 use Rattle.workmap.specs.Map.{map-of}
-use Rattle.questions.specs.Questions.{Askable}
+use Rattle.reaching.specs.Questions.{Askable}
 use Rattle.network.proofs.Answering.{reach-askable, reach-refused, reach-done}
 use Rattle.network.proofs.reach.Statement.{statement}
 use Rattle.network.proofs.reach.Tie as tie

@@ -5,7 +5,7 @@ use native.Mathlib.Omega.{arith}
 use Prim.Native.Nat.{ℕ, _≤_, _<_, _-_}
 use mathlib.Core.Path.{_≡_, ap, _∙_}
 use mathlib.Core.Logic.{⊎-elim}
-use Rattle.arranged.proofs.Zeros.{below?}
+use Rattle.memory.proofs.Numbers.{below?}
 use Rattle.workmap.proofs.Places.{names-placed}
 use Rattle.outward.specs.Standing.{name-at}
 use Rattle.ring.proofs.next_above.Statement.{statement}

@@ -8,7 +8,8 @@ use Rattle.buffer.specs.Put.{Text-room}
 use Rattle.buffer.proofs.Puts.{room-first, room-rest, written-then}
 use Rattle.lines.specs.Lines.{lines-of}
 use Rattle.lines.proofs.Links.{lines-length}
-use Rattle.text.specs.Texts.{head-text, plan-text}
+use Rattle.phrases.specs.Phrases.{head-text}
+use Rattle.text.specs.Texts.{plan-text}
 use Rattle.text.proofs.TextLaws.{plan-text-length}
 use borrow.Author.Needs.{needs}
 use Rattle.text.proofs.say_plan.Statement.{statement}

@@ -1,0 +1,2 @@
+-- What the contracts of counting say.
+pub mod Counts

@@ -1,0 +1,3 @@
+-- Laws of what beginning and placing do on plain lists.
+pub mod Beginnings
+pub mod Places

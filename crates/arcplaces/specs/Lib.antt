@@ -1,0 +1,2 @@
+-- What the contracts of placing say.
+pub mod Places

@@ -1,0 +1,2 @@
+-- The laws that the proof of a known number cites.
+pub mod GoodNumbers

@@ -1,0 +1,2 @@
+-- What the contract of a known number cites.
+pub mod Numbers

@@ -1,0 +1,2 @@
+-- The laws that the proofs of a quick look cite.
+pub mod PlainLaws

@@ -1,0 +1,2 @@
+-- What the contracts of a quick look cite.
+pub mod Looks

@@ -1,6 +1,0 @@
--- The laws that the proofs of linkplan's functions cite.
-pub mod Found
-pub mod Accepted
-pub mod Lines
-pub mod Handing
-pub mod Outcomes

@@ -1,2 +1,0 @@
--- What the contracts of linkplan cite.
-pub mod Buffers

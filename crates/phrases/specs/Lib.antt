@@ -1,0 +1,2 @@
+-- What the contracts of these texts say.
+pub mod Phrases

@@ -1,3 +1,0 @@
--- What the two questions ask and answer.
-pub mod Marks
-pub mod Questions

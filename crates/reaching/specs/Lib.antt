@@ -1,0 +1,2 @@
+-- What the two questions ask and answer.
+pub mod Questions

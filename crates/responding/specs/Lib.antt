@@ -1,0 +1,2 @@
+-- What the contracts of the two functions cite.
+pub mod Buffers

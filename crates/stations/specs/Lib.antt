@@ -1,0 +1,2 @@
+-- What the contracts over the stations of a chain say.
+pub mod Stations
