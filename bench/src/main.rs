@@ -1,6 +1,7 @@
 //! Times the archive's six calls beside the model, on eight families of
-//! networks at three sizes, all in one run. Prints Markdown tables to standard
-//! output and writes a plot of the ratios.
+//! networks at three sizes, all in one run; the skeleton also beside a tuned
+//! program and, if there is one, an earlier archive. Prints Markdown tables to
+//! standard output and writes a plot of the ratios.
 
 #[path = "../../tests/src/chance.rs"]
 #[allow(dead_code)]
@@ -15,10 +16,14 @@ mod model;
 mod net;
 #[path = "../../include/linkplan.rs"]
 mod linkplan;
+mod before;
 mod measure;
 mod plot;
 mod table;
 mod timed;
+mod tuned;
+#[cfg(test)]
+mod tuned_test;
 
 use chance::Chance;
 use families::FAMILIES;
@@ -54,8 +59,8 @@ fn main() {
                     eprintln!("{} on {name} of {zones} zones: {text}", CALLS[call]);
                     exit(1);
                 }
-                let (ours, model) = measure::both(&mut timed, call, runs);
-                figures.push(Figure { call, family, zones, arcs: net.tails.len(), ours, model });
+                let times = measure::medians(&mut timed, call, runs);
+                figures.push(Figure { call, family, zones, arcs: net.tails.len(), times });
             }
             eprintln!("timed: {name}, {zones} zones");
         }

@@ -1,6 +1,6 @@
-//! Takes the times: ours and the model's in turn, and the median of each.
+//! Takes the times: ours and the others' in turn, and the median of each.
 
-use crate::timed::{Timed, CALLS, QUESTIONS};
+use crate::timed::{sides, Side, Timed, CALLS, QUESTIONS};
 use std::hint::black_box;
 use std::time::Instant;
 
@@ -10,13 +10,22 @@ pub struct Figure {
     pub family: usize,
     pub zones: usize,
     pub arcs: usize,
-    pub ours: f64,
-    pub model: f64,
+    /// One for each of the call's sides.
+    pub times: Vec<f64>,
 }
 
 impl Figure {
+    pub fn time(&self, side: Side) -> f64 {
+        self.times[side as usize]
+    }
+
+    /// One side's time over another's.
+    pub fn over(&self, side: Side, other: Side) -> f64 {
+        self.time(side) / self.time(other)
+    }
+
     pub fn ratio(&self) -> f64 {
-        self.ours / self.model
+        self.over(Side::Ours, Side::Model)
     }
 }
 
@@ -24,35 +33,32 @@ impl Figure {
 /// is shorter, so that the clock's own steps do not matter.
 pub const SAMPLE_SECONDS: f64 = 50e-6;
 
-/// Medians of `runs` samples of each.
-pub fn both(timed: &mut Timed, call: usize, runs: usize) -> (f64, f64) {
-    let many = [how_many(timed, call, true), how_many(timed, call, false)];
-    let mut times = [Vec::new(), Vec::new()];
+/// Medians of `runs` samples of each side of the call.
+pub fn medians(timed: &mut Timed, call: usize, runs: usize) -> Vec<f64> {
+    let sides = sides(call);
+    let many: Vec<usize> = sides.iter().map(|&side| how_many(timed, call, side)).collect();
+    let mut times = vec![Vec::new(); sides.len()];
     for _ in 0..runs {
-        times[0].push(sample(timed, call, true, many[0]));
-        times[1].push(sample(timed, call, false, many[1]));
+        for (index, &side) in sides.iter().enumerate() {
+            times[index].push(sample(timed, call, side, many[index]));
+        }
     }
     let each = if CALLS[call] == "reach" { QUESTIONS as f64 } else { 1.0 };
-    let [ours, model] = times;
-    (median(ours) / each, median(model) / each)
+    times.into_iter().map(|times| median(times) / each).collect()
 }
 
-fn how_many(timed: &mut Timed, call: usize, ours: bool) -> usize {
-    sample(timed, call, ours, 1); // the first one finds nothing in the caches
-    let seconds = sample(timed, call, ours, 1).max(1e-9);
+fn how_many(timed: &mut Timed, call: usize, side: Side) -> usize {
+    sample(timed, call, side, 1); // the first one finds nothing in the caches
+    let seconds = sample(timed, call, side, 1).max(1e-9);
     (SAMPLE_SECONDS / seconds).ceil().clamp(1.0, 1000.0) as usize
 }
 
 /// Seconds for one call, as the mean over `many` in a row.
-fn sample(timed: &mut Timed, call: usize, ours: bool, many: usize) -> f64 {
+fn sample(timed: &mut Timed, call: usize, side: Side, many: usize) -> f64 {
     timed.soil();
     let start = Instant::now();
     for _ in 0..many {
-        if ours {
-            black_box(timed.ours(call));
-        } else {
-            black_box(timed.model(call));
-        }
+        black_box(timed.answer(side, call));
     }
     start.elapsed().as_secs_f64() / many as f64
 }

@@ -1,10 +1,12 @@
 //! One network with all the lists that its calls are lent, and the six calls on
-//! it by the archive and by the model.
+//! it by the archive and by the model; the skeleton also by others.
 
+use crate::before;
 use crate::chance::Chance;
 use crate::linkplan::*;
 use crate::model::{self, work_asked, Answer};
 use crate::net::Net;
+use crate::tuned::Tuned;
 
 pub const CALLS: [&str; 6] = ["read", "write", "strong", "reach", "skeleton", "plan"];
 
@@ -12,8 +14,36 @@ pub const CALLS: [&str; 6] = ["read", "write", "strong", "reach", "skeleton", "p
 /// of one.
 pub const QUESTIONS: usize = 16;
 
+/// Whose call is timed.
+#[derive(Clone, Copy, PartialEq, Eq)]
+pub enum Side {
+    Ours,
+    Model,
+    Tuned,
+    Before,
+}
+
+impl Side {
+    pub const ALL: [Side; 4] = [Side::Ours, Side::Model, Side::Tuned, Side::Before];
+
+    /// Its name in the tables.
+    pub fn name(self) -> &'static str {
+        ["ours", "model", "tuned", "before"][self as usize]
+    }
+}
+
+/// Those whose calls are timed beside each other, ours first.
+pub fn sides(call: usize) -> &'static [Side] {
+    match CALLS[call] {
+        "skeleton" if cfg!(before) => &Side::ALL,
+        "skeleton" => &Side::ALL[..3],
+        _ => &Side::ALL[..2],
+    }
+}
+
 pub struct Timed {
     net: Net,
+    tuned: Box<Tuned>,
     file: Vec<u8>,
     questions: Vec<(usize, usize)>,
     /// Output lists, of the lengths that the calls ask for.
@@ -32,6 +62,7 @@ impl Timed {
         let file = model::file::bytes(zones, &net.tails, &net.heads);
         Timed {
             net: net.clone(),
+            tuned: Tuned::new(),
             questions: (0..QUESTIONS).map(|_| (chance.below(zones), chance.below(zones))).collect(),
             out_file: vec![0; file.len()],
             file,
@@ -54,9 +85,21 @@ impl Timed {
         }
     }
 
+    /// The answer of one side.
+    pub fn answer(&mut self, side: Side, call: usize) -> Answer {
+        match side {
+            Side::Ours | Side::Before => self.archive(side, call),
+            Side::Model => self.model(call),
+            Side::Tuned => {
+                let Net { zones, tails, heads } = &self.net;
+                self.tuned.skeleton(*zones, tails, heads, &mut self.tails, &mut self.heads, &mut self.work)
+            }
+        }
+    }
+
     /// The archive's answer. That of reach is the last question's, with all
     /// questions' yes and no as the bits of its last number.
-    pub fn ours(&mut self, call: usize) -> Answer {
+    fn archive(&mut self, side: Side, call: usize) -> Answer {
         let (zones, arcs) = (self.net.zones, self.net.tails.len());
         let (t, h) = (self.net.tails.as_ptr(), self.net.heads.as_ptr());
         let (work, work_len) = (self.work.as_mut_ptr(), self.work.len());
@@ -79,7 +122,10 @@ impl Timed {
                     }
                     *a.add(7) = all;
                 }
-                "skeleton" => linkplan_skeleton(zones, t, arcs, h, arcs, tails, arcs, heads, arcs, work, work_len, a),
+                "skeleton" => {
+                    let skeleton = if side == Side::Before { before::skeleton } else { linkplan_skeleton };
+                    skeleton(zones, t, arcs, h, arcs, tails, arcs, heads, arcs, work, work_len, a);
+                }
                 _ => linkplan_plan(zones, t, arcs, h, arcs, from, zones, to, zones, why, zones, work, work_len, a),
             }
         }
@@ -87,7 +133,7 @@ impl Timed {
     }
 
     /// The model's answer, in the same way.
-    pub fn model(&mut self, call: usize) -> Answer {
+    fn model(&mut self, call: usize) -> Answer {
         let Net { zones, tails, heads } = &self.net;
         match CALLS[call] {
             "read" => model::read(&self.file, &mut self.tails, &mut self.heads),
@@ -115,17 +161,18 @@ impl Timed {
         (self.out_file.clone(), lists.into_iter().flatten().copied().collect())
     }
 
-    /// Whether both give the same: times of wrong results are worth nothing.
+    /// Whether all give the same: times of wrong results are worth nothing.
     pub fn agree(&mut self, call: usize) -> Result<(), String> {
         self.soil();
-        let ours = (self.ours(call), self.written());
-        self.soil();
-        let model = (self.model(call), self.written());
+        let ours = (self.answer(Side::Ours, call), self.written());
         if ours.0[0] != 0 {
             return Err(format!("refused: {:?}", ours.0));
         }
-        if ours != model {
-            return Err("the archive and the model differ".to_string());
+        for &side in &sides(call)[1..] {
+            self.soil();
+            if ours != (self.answer(side, call), self.written()) {
+                return Err(format!("ours and {} differ", side.name()));
+            }
         }
         Ok(())
     }

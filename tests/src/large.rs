@@ -1,5 +1,6 @@
 //! The largest sizes: 1,024 zones, 4,096 arcs, in many shapes, and refusals at
-//! the last place.
+//! the last place. And sizes about multiples of 128, where the skeleton's table
+//! goes from one block of components to the next.
 
 use crate::compare::Comparer;
 use crate::families::{self, FAMILIES};
@@ -18,7 +19,31 @@ pub fn run(to: &mut Comparer, rounds: usize, questions: usize) {
             one(to, &net, questions);
         }
         edges(to);
+        for zones in [126, 127, 128, 129, 130, 255, 256, 257, 384, 385, 1023, 1024] {
+            for arcs in block_shapes(zones) {
+                let net = families::mixed(zones, arcs, &mut to.chance);
+                one(to, &net, 1);
+            }
+        }
     }
+}
+
+/// Components along a path, so that a zone's place is its number, with arcs that
+/// have a third between or not, within a block and from one to the next.
+fn block_shapes(zones: usize) -> Vec<Vec<(usize, usize)>> {
+    let path: Vec<(usize, usize)> = (1..zones).map(|zone| (zone - 1, zone)).collect();
+    let ahead = |step: usize| (0..zones - step).map(move |zone| (zone, zone + step));
+    // Every other zone has no arc to the next: arcs over one stay, arcs over two go.
+    let steps: Vec<(usize, usize)> = ahead(2).chain(ahead(4)).collect();
+    // The zones about each edge of a block, each to each behind it.
+    let about: Vec<usize> = (0..zones).filter(|zone| (zone + 3) % 128 < 6).collect();
+    let edge = about.iter().flat_map(|&a| about.iter().map(move |&b| (a, b))).filter(|(a, b)| a < b).collect();
+    // The first zone of each block to the last of every block.
+    let ends = (0..zones).step_by(128).flat_map(|a| (127..zones).step_by(128).map(move |b| (a, b)));
+    let mut doubled = path.clone();
+    doubled.extend(ahead(128.min(zones - 1)));
+    doubled.extend(path.iter().copied());
+    vec![steps, edge, ends.filter(|(a, b)| a < b).chain(path).collect(), doubled]
 }
 
 fn one(to: &mut Comparer, net: &Net, questions: usize) {

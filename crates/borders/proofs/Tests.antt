@@ -17,10 +17,10 @@ use borrow.Author.Tests.{eq-eqb, ne-eqb}
 use Rattle.rules.specs.Lists.{any, keep, span}
 use Rattle.rules.specs.Answers.{yes-number}
 use Rattle.theory.proofs.Ground.Bools.{bool-cases}
-use Rattle.theory.proofs.Ground.Lists.{any-hit, any-miss, keep-hit, keep-miss}
+use Rattle.theory.proofs.Ground.Lists.{any-hit, any-miss, keep-hit, keep-miss, keep-append}
 use Rattle.theory.proofs.Ground.Counting.{keep-length}
 use Rattle.theory.proofs.Ground.Ascending.{span-length}
-use Rattle.theory.proofs.Skeletons.SkeletonRows.{span-more}
+use Rattle.theory.proofs.Ground.Ascending.{span-more}
 use Rattle.workmap.specs.declared.KindsAt.{KindsAt}
 use Rattle.memory.specs.Regions.{cell}
 use Rattle.borders.specs.Borders.{raised, own-kind}
@@ -76,21 +76,6 @@ both-ways true true = refl
 both-ways true false = refl
 both-ways false true = refl
 both-ways false false = refl
-
--- What passes a test in two lists joined.
-keep-append : (p : ℕ → Bool) (xs ys : List ℕ) → keep p (xs ++ ys) ≡ keep p xs ++ keep p ys
-keep-append p [] ys = refl
-keep-append p (x ∷ xs) ys =
-    elim (bool-cases (p x)) [
-      | inl e ↦
-          keep-hit p (xs ++ ys) e
-          ∙ ap (λ (zs : List ℕ). x ∷ zs) (keep-append p xs ys)
-          ∙ ap (λ (zs : List ℕ). zs ++ keep p ys) (sym (keep-hit p xs e))
-      | inr e ↦
-          keep-miss p (xs ++ ys) e
-          ∙ keep-append p xs ys
-          ∙ ap (λ (zs : List ℕ). zs ++ keep p ys) (sym (keep-miss p xs e))
-    ]
 
 -- Among one number more that passes a test, it comes last.
 pub keep-put : (p : ℕ → Bool) (z : ℕ) → p z ≡ true → keep p (span 0 (z + 1)) ≡ keep p (span 0 z) ++ (z ∷ [])

@@ -5,3 +5,4 @@ pub mod Stores
 pub mod Places
 pub mod Copies
 pub mod Cleared
+pub mod Puts

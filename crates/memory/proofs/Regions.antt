@@ -17,7 +17,7 @@ use native.Mathlib.Nat.{zero-add, suc-add}
 use native.Mathlib.Numerals.{add-one}
 use native.Mathlib.Omega.{arith}
 use lib.ListN.{length, getD, set, take, drop, length-take, length-drop, length-append}
-use lib.Seq.{length-take-le, take-suc, take-nil, ext-getD, slice}
+use lib.Seq.{length-take-le, take-suc, take-nil, ext-getD}
 use lib.Seq.{getD-take, getD-drop, drop-set-lt, drop-set-add, take-set-le, take-suc-set, take-take, take-add}
 use lib.Seq.{drop-drop}
 use Rattle.memory.specs.Regions.{part, Holds}

@@ -1,5 +1,3 @@
 -- Laws of the call `skeleton`.
-mod Zone
-mod Zones
 mod Answering
 mod Sketching

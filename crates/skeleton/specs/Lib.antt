@@ -1,3 +1,2 @@
 -- What the call `skeleton` promises, and what its inner functions ask and leave.
-pub mod Zones
 pub mod Promises

@@ -6,4 +6,6 @@ pub mod Alike
 pub mod SkeletonSame
 pub mod SkeletonLeast
 pub mod SkeletonOrder
-pub mod SkeletonRows
+pub mod TableStep
+pub mod TablePlaces
+pub mod Condensing

@@ -1,6 +1,6 @@
 -- Laws of the map of lent work memory: it is put together from its parts, and each place is a number.
 --   map-parts   parts that are as the map has them make the map
---   placed, searches-placed, .. cross-placed   of a map that is `map-of n k`: the places of the rows, of the searches
+--   placed, searches-placed, .. links-placed   of a map that is `map-of n k`: the places of the rows, of the searches
 --               and of each other pass, as numbers. A proof that has one of these in scope tells places apart by
 --               arithmetic, and writes no number itself.
 -- Assumes nothing.
@@ -16,15 +16,17 @@ use Rattle.workmap.specs.declared.KindsAt.{KindsAt}
 use Rattle.workmap.specs.declared.ListsAt.{ListsAt}
 use Rattle.workmap.specs.declared.PairsAt.{PairsAt}
 use Rattle.workmap.specs.declared.LinksAt.{LinksAt}
-use Rattle.workmap.specs.declared.CrossAt.{CrossAt}
+use Rattle.workmap.specs.declared.RingsAt.{RingsAt}
+use Rattle.workmap.specs.declared.PlacesAt.{PlacesAt}
+use Rattle.workmap.specs.declared.TableAt.{TableAt}
 use Rattle.workmap.specs.declared.Map.{Map}
 use Rattle.workmap.specs.Map.{rows-at, turned-at, search-at, back-at, order-at, names-at, kinds-at, lists-at}
-use Rattle.workmap.specs.Map.{pairs-at, links-at, cross-at, map-of}
+use Rattle.workmap.specs.Map.{pairs-at, links-at, rings-at, places-at, table-at, map-of}
 
 -- a map of given parts
 abbrev pub parts-map : ℕ → ℕ → ℕ → RowsAt → RowsAt → SearchAt → SearchAt → OrderAt → NamesAt → KindsAt → ListsAt
-    → PairsAt → LinksAt → CrossAt → Map
-parts-map n m a r t s b o e k l p i x =
+    → PairsAt → LinksAt → RingsAt → PlacesAt → TableAt → RowsAt → Map
+parts-map n m a r t s b o e k l p i x y z q =
     record {
       zones = n;
       arcs = m;
@@ -39,16 +41,21 @@ parts-map n m a r t s b o e k l p i x =
       lists = l;
       pairs = p;
       links = i;
-      cross = x;
+      rings = x;
+      places = y;
+      table = z;
+      sorting = q;
     }
 
 -- parts that are as the map has them make the map
 pub map-parts : {n m a : ℕ} {r t : RowsAt} {s b : SearchAt} {o : OrderAt} {e : NamesAt} {k : KindsAt} {l : ListsAt}
-    {p : PairsAt} {i : LinksAt} {x : CrossAt} → a ≡ asked-work n m → r ≡ rows-at n → t ≡ turned-at n m
-    → s ≡ search-at n → b ≡ back-at n → o ≡ order-at n
-    → e ≡ names-at n → k ≡ kinds-at n → l ≡ lists-at n → p ≡ pairs-at n → i ≡ links-at n → x ≡ cross-at n
-    → parts-map n m a r t s b o e k l p i x ≡ map-of n m
-map-parts ea er et es eb eo ee ek el ep ei ex = rw (ea, er, et, es, eb, eo, ee, ek, el, ep, ei, ex) refl
+    {p : PairsAt} {i : LinksAt} {x : RingsAt} {y : PlacesAt} {z : TableAt} {q : RowsAt}
+    → a ≡ asked-work n m → r ≡ rows-at n → t ≡ turned-at n m → s ≡ search-at n → b ≡ back-at n → o ≡ order-at n
+    → e ≡ names-at n → k ≡ kinds-at n → l ≡ lists-at n → p ≡ pairs-at n → i ≡ links-at n
+    → x ≡ rings-at n → y ≡ places-at n → z ≡ table-at n → q ≡ rows-at n
+    → parts-map n m a r t s b o e k l p i x y z q ≡ map-of n m
+map-parts ea er et es eb eo ee ek el ep ei ex ey ez eq =
+    rw (ea, er, et, es, eb, eo, ee, ek, el, ep, ei, ex, ey, ez, eq) refl
 
 -- where a map has the counts, what is asked for, and the rows
 pub record Placed (m : Map) (n k : ℕ) : Type 0 where
@@ -102,11 +109,6 @@ pub record Links-placed (m : Map) (n k : ℕ) : Type 0 where
   pub from : m .links .from ≡ 0
   pub to : m .links .to ≡ n
   pub why : m .links .why ≡ 11 * n
-
--- where a map has the arcs out of a component
-pub record Cross-placed (m : Map) (n k : ℕ) : Type 0 where
-  pub direct : m .cross .direct ≡ 2 * n
-  pub chosen : m .cross .chosen ≡ 3 * n
 
 module _ {m : Map} {n k : ℕ} (e : m ≡ map-of n k) where
   -- the map of n zones and k arcs has the counts, what is asked for, and the rows there
@@ -163,7 +165,3 @@ module _ {m : Map} {n k : ℕ} (e : m ≡ map-of n k) where
   -- the map of n zones and k arcs has the links there
   pub links-placed : Links-placed m n k
   links-placed = rw e record { stations = omega arith; from = omega arith; to = omega arith; why = omega arith }
-
-  -- the map of n zones and k arcs has the arcs out of a component there
-  pub cross-placed : Cross-placed m n k
-  cross-placed = rw e record { direct = omega arith; chosen = omega arith }

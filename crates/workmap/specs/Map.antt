@@ -1,12 +1,15 @@
 -- Where everything stands in lent work memory, for a network of n zones and m arcs.
 --   0          a search: marks, queue            or the links' starts and ends
---   2 n        a search against the arcs         or what is entered and left, or the chain's stations, or crossings
+--   2 n        a search against the arcs         or what is entered and left, or the chain's stations
 --   4 n        tops, names, low, roots, queue, then seen, next, order: the components, n elements each
 --              or the sources at 4 n, the sinks at 6 n, those alone at 7 n; the pairs from 8 n on; the whys at 11 n
---   12 n       the starts of the rows, n + 1, then the rows, m
+--              or, once the components are named: the rings at 0, the components' places at 2 n; then the table of who
+--              reaches whom at 0, 8 n elements, and the components' names in topological order at 8 n
+--   12 n       the starts of the rows, n + 1, then the rows, m; later the rows of the components' network, and
+--              last the skeleton's arcs
 --   13 n + 1 + m   the starts of the turned rows, n + 1, then the turned rows, m
 -- The whole takes 14 n + 2 m + 2 elements, which is at most the 16 n + 3 m that are asked for.
---   map-of n m   all places;   rows-at .. cross-at   the places of one pass
+--   map-of n m   all places;   rows-at .. table-at   the places of one pass
 --   row-places, search-places   rows and a search at places of any kind
 use Prim.Native.Nat.{ℕ, _+_, _*_}
 use Rattle.rules.specs.Calls.{asked-work}
@@ -18,7 +21,9 @@ use Rattle.workmap.specs.declared.KindsAt.{KindsAt}
 use Rattle.workmap.specs.declared.ListsAt.{ListsAt}
 use Rattle.workmap.specs.declared.PairsAt.{PairsAt}
 use Rattle.workmap.specs.declared.LinksAt.{LinksAt}
-use Rattle.workmap.specs.declared.CrossAt.{CrossAt}
+use Rattle.workmap.specs.declared.RingsAt.{RingsAt}
+use Rattle.workmap.specs.declared.PlacesAt.{PlacesAt}
+use Rattle.workmap.specs.declared.TableAt.{TableAt}
 use Rattle.workmap.specs.declared.Map.{Map}
 
 -- rows of n zones, with their starts and the rows at two places
@@ -69,9 +74,17 @@ pairs-at n = record { firsts = 8 * n; seconds = 9 * n; lone = 10 * n }
 abbrev pub links-at : ℕ → LinksAt
 links-at n = record { stations = 2 * n; from = 0; to = n; why = 11 * n }
 
--- the arcs out of a component
-abbrev pub cross-at : ℕ → CrossAt
-cross-at n = record { direct = 2 * n; chosen = 3 * n }
+-- the rings
+abbrev pub rings-at : ℕ → RingsAt
+rings-at n = record { zones = n; last = 0; names = 5 * n }
+
+-- the places of the components
+abbrev pub places-at : ℕ → PlacesAt
+places-at n = record { zones = n; spots = 2 * n; tops = 4 * n; names = 5 * n; order = 8 * n }
+
+-- the network of the components
+abbrev pub table-at : ℕ → TableAt
+table-at n = record { tops = 8 * n; rows = rows-at n }
 
 -- the map of a network of n zones and m arcs
 abbrev pub map-of : ℕ → ℕ → Map
@@ -90,5 +103,8 @@ map-of n m =
       lists = lists-at n;
       pairs = pairs-at n;
       links = links-at n;
-      cross = cross-at n;
+      rings = rings-at n;
+      places = places-at n;
+      table = table-at n;
+      sorting = rows-at n;
     }

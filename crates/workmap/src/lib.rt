@@ -6,7 +6,7 @@ ghost use mathlib.Core.Path.{_≡_};
 ghost use Prim.Native.Nat.{_≤_};
 ghost use Rattle.rules.specs.Calls.{asked-work};
 ghost use Rattle.workmap.specs.Map.{rows-at, turned-at, search-at, back-at, order-at, names-at, kinds-at};
-ghost use Rattle.workmap.specs.Map.{lists-at, pairs-at, links-at, cross-at, map-of};
+ghost use Rattle.workmap.specs.Map.{lists-at, pairs-at, links-at, rings-at, places-at, table-at, map-of};
 
 // Rows of heads: how many zones there are, and where the starts of the rows and the rows stand.
 pub struct RowsAt {
@@ -78,10 +78,28 @@ pub struct Side {
     pub links: LinksAt,
 }
 
-// The arcs between components, for one of them: which an arc leads to, and which are chosen.
-pub struct CrossAt {
-    pub direct: usize,
-    pub chosen: usize,
+// The rings of the components: for each name the lowest zone of its component so far, and each zone's name.
+pub struct RingsAt {
+    pub zones: usize,
+    pub last: usize,
+    pub names: usize,
+}
+
+// The places of the components in their topological order: the place of each name; the names in that order, and each
+// zone's name; and the names in that order once more, behind the table.
+pub struct PlacesAt {
+    pub zones: usize,
+    pub spots: usize,
+    pub tops: usize,
+    pub names: usize,
+    pub order: usize,
+}
+
+// The network of the components, by their places: behind the table of who reaches whom, which is at the front, the
+// names in topological order, and the rows of heads.
+pub struct TableAt {
+    pub tops: usize,
+    pub rows: RowsAt,
 }
 
 // Where everything stands in the work memory of a network of so many zones and arcs, and how much of it is asked for.
@@ -99,7 +117,10 @@ pub struct Map {
     pub lists: ListsAt,
     pub pairs: PairsAt,
     pub links: LinksAt,
-    pub cross: CrossAt,
+    pub rings: RingsAt,
+    pub places: PlacesAt,
+    pub table: TableAt,
+    pub sorting: RowsAt,
 }
 
 // The work memory that a call asks for.
@@ -233,14 +254,40 @@ fn links_at(zones: usize) -> LinksAt
     }
 }
 
-// The arcs out of a component, behind the search.
-fn cross_at(zones: usize) -> CrossAt
+// The rings, at the front; the names are where the components have them.
+fn rings_at(zones: usize) -> RingsAt
     requires { ⌜ zones ≤ 1024 ⌝ }
-    ensures { λ r. ⌜ r ≡ cross-at zones ⌝ }
+    ensures { λ r. ⌜ r ≡ rings-at zones ⌝ }
 {
-    CrossAt {
-        direct: 2 * zones,
-        chosen: 3 * zones,
+    RingsAt {
+        zones: zones,
+        last: 0,
+        names: 5 * zones,
+    }
+}
+
+// The places of the components, behind the rings; the names are where the components have them.
+fn places_at(zones: usize) -> PlacesAt
+    requires { ⌜ zones ≤ 1024 ⌝ }
+    ensures { λ r. ⌜ r ≡ places-at zones ⌝ }
+{
+    PlacesAt {
+        zones: zones,
+        spots: 2 * zones,
+        tops: 4 * zones,
+        names: 5 * zones,
+        order: 8 * zones,
+    }
+}
+
+// The network of the components: the names right behind the table, and the rows where those of the zones were.
+fn table_at(zones: usize) -> TableAt
+    requires { ⌜ zones ≤ 1024 ⌝ }
+    ensures { λ r. ⌜ r ≡ table-at zones ⌝ }
+{
+    TableAt {
+        tops: 8 * zones,
+        rows: rows_at(zones),
     }
 }
 
@@ -264,6 +311,9 @@ pub fn map_of(zones: usize, arcs: usize) -> Map
         lists: lists_at(zones),
         pairs: pairs_at(zones),
         links: links_at(zones),
-        cross: cross_at(zones),
+        rings: rings_at(zones),
+        places: places_at(zones),
+        table: table_at(zones),
+        sorting: rows_at(zones),
     }
 }

@@ -1,5 +1,5 @@
--- `skeleton::sketch` meets its contract: the memory is readied, the zones get their names, the arcs of all zones are
--- put, and clearing leaves what came behind. Assumes nothing.
+-- `skeleton::sketch` meets its contract: the memory is readied, the zones get their names, the skeleton's arcs are put
+-- and sorted, and clearing leaves what came behind. Assumes nothing.
 use borrow.Author.Needs.{needs}
 use native.Mathlib.Omega.{arith}
 use Prim.Native.Nat.{ℕ}
@@ -10,12 +10,14 @@ use Rattle.rules.specs.Network.{network-of}
 use Rattle.rules.specs.Calls.{arcs-of}
 use Rattle.theory.proofs.Files.Accepting.{fine-few}
 use Rattle.workmap.specs.declared.Map.{Map}
-use Rattle.workmap.specs.Map.{map-of}
+use Rattle.workmap.specs.Map.{map-of, rows-at}
 use Rattle.workmap.proofs.Places.{placed}
 use Rattle.arranged.specs.Ready.{Readied}
 use Rattle.components.specs.Components.{Lent, Components}
 use Rattle.components.proofs.Lending.{lent-ready, components-at}
-use Rattle.skeleton.proofs.Sketching.{named-here, sketched}
+use Rattle.sorting.specs.Sorting.{Sortable, Sorted}
+use Rattle.drawing.specs.Drawing.{Drawn}
+use Rattle.skeleton.proofs.Sketching.{named-here, sort-asked, sketched}
 use Rattle.skeleton.proofs.sketch.Statement.{statement}
 use Rattle.skeleton.proofs.sketch.Tie as tie
 
@@ -84,8 +86,79 @@ name-all-requires c κs =
     let a = entry d .args in
     (a .tails .now, (a .heads .now, lent-there d))
 
-put-rows-requires : tie.Need-put-rows-requires
-put-rows-requires c κs =
+-- the skeleton's arcs are put, in no order
+abbrev Put : Type 0
+Put = tie.After-draw
+
+-- the zones had their names before
+abbrev named-at : Put → Here
+named-at c = c .before .before .before .before .before .before
+
+-- what putting them left
+drawn-here : (c : Put) →
+    let a = entry (ready-at (named-at c)) .args in
+    let l = c .draw .last in
+    Drawn (named-at c .name-all .last .0) (l .1 .1 .1 .1 .1 .1 .0) (a .zones) (a .tails .now) (a .heads .now)
+    (a .from .now) (a .to .now) (l .1 .1 .1 .1 .0) (l .1 .1 .1 .1 .1 .0) (c .draw .result)
+drawn-here c = rw (zones-are (ready-at (named-at c))) at (c .draw .ensures)
+
+-- they can be sorted
+sortable-here : (c : Put) →
+    let a = entry (ready-at (named-at c)) .args in
+    let l = c .draw .last in
+    Sortable (rows-at (a .zones)) (l .1 .1 .1 .1 .0) (l .1 .1 .1 .1 .1 .0) (c .draw .result) (l .1 .1 .1 .1 .1 .1 .0)
+sortable-here c =
+    let d = named-at c in
+    let e = ready-at d in
+    let s = entry e in
+    let a = s .args in
+    let l = c .draw .last in
+    sort-asked (a .zones) (a .tails .now) (a .heads .now) (a .work .now) (e .ready .last .1 .1 .1 .0) (s .pre .ready)
+    (readied-there e) (d .name-all .last .0) (d .name-all .result) (components-here d) (a .from .now) (a .to .now)
+    (s .pre) (l .1 .1 .1 .1 .1 .1 .0) (l .1 .1 .1 .1 .0) (l .1 .1 .1 .1 .1 .0) (c .draw .result) (drawn-here c)
+
+-- where the map has the rows by which arcs are sorted
+sorting-is : (c : Ready) → c .before .before .map-of .result .sorting ≡ rows-at (entry c .args .zones)
+sorting-is c = ap (λ (m : Map). m .sorting) (c .before .before .map-of .ensures)
+
+-- the arcs are sorted
+abbrev In-order : Type 0
+In-order = tie.After-sort
+
+-- they were put before
+abbrev put-at : In-order → Put
+put-at c = c .before .before .before .before .before .before .before .before .before .before
+
+-- what sorting left
+sorted-here : (c : In-order) →
+    let p = put-at c in
+    let a = entry (ready-at (named-at p)) .args in
+    let l = p .draw .last in
+    let k = c .sort .last in
+    Sorted (rows-at (a .zones)) (l .1 .1 .1 .1 .0) (l .1 .1 .1 .1 .1 .0) (p .draw .result) (l .1 .1 .1 .1 .1 .1 .0)
+    (k .1 .0) (k .1 .1 .0) (k .1 .1 .1 .1 .0)
+sorted-here c = rw (sorting-is (ready-at (named-at (put-at c)))) at (c .sort .ensures)
+
+returns : tie.Need-returns
+returns c =
+    let x = c .before .before in
+    let o = x .before .before .before .before .before .before .before .before in
+    let p = put-at o in
+    let d = named-at p in
+    let e = ready-at d in
+    let s = entry e in
+    let a = s .args in
+    let l = p .draw .last in
+    let k = o .sort .last in
+    sketched (a .zones) (a .tails .now) (a .heads .now) (a .work .now) (e .ready .last .1 .1 .1 .0) (s .pre .ready)
+    (readied-there e) (d .name-all .last .0) (d .name-all .result) (components-here d) (a .from .now) (a .to .now)
+    (s .pre) (l .1 .1 .1 .1 .1 .1 .0) (l .1 .1 .1 .1 .0) (l .1 .1 .1 .1 .1 .0) (p .draw .result) (drawn-here p)
+    (k .1 .1 .1 .1 .0) (k .1 .0) (k .1 .1 .0) (sorted-here o) (x .clear .last .0)
+    (subst (λ (n : ℕ). x .clear .last .0 ≡ cleared n (k .1 .1 .1 .1 .0))
+    (ap (λ (m : Map). m .asked) (e .before .before .map-of .ensures)) (x .clear .ensures))
+
+draw-requires : tie.Need-draw-requires
+draw-requires c κs =
     let d = c .before .before .before .before .before in
     let e = ready-at d in
     let s = entry e in
@@ -93,13 +166,19 @@ put-rows-requires c κs =
       rw (zones-are e)
           (named-here (a .zones) (a .tails .now) (a .heads .now) (a .work .now) (e .ready .last .1 .1 .1 .0)
           (s .pre .ready) (readied-there e) (d .name-all .last .0) (d .name-all .result) (components-here d)),
-      (s .pre .tails-room, (s .pre .heads-room, is-map e)),
+      ((s .pre .tails-room, s .pre .heads-room), is-map e),
     )
+
+sort-requires : tie.Need-sort-requires
+sort-requires c κs =
+    let p = c .before .before .before .before .before .before .before .before .before in
+    rw (sorting-is (ready-at (named-at p))) (sortable-here p)
 
 clear-requires : tie.Need-clear-requires
 clear-requires c κs =
-    let p = c .before .before .before .before .before .before .before in
-    let d = p .before .before .before .before .before .before in
+    let o = c .before .before .before .before .before .before .before in
+    let p = put-at o in
+    let d = named-at p in
     let e = ready-at d in
     let at = placed (e .before .before .map-of .ensures) in
     omega (
@@ -107,7 +186,8 @@ clear-requires c κs =
       entry e .pre .ready .room,
       readied-there e .standing .long,
       components-here d .long,
-      p .put-rows .ensures .long,
+      drawn-here p .long,
+      sorted-here o .long,
     )
 
 same-length : tie.Need-same-length
@@ -119,22 +199,6 @@ same-length-2 c = search needs
 same-length-3 : tie.Need-same-length-3
 same-length-3 c = search needs
 
-returns : tie.Need-returns
-returns c =
-    let x = c .before .before in
-    let p = x .before .before .before .before .before .before .before .before in
-    let d = p .before .before .before .before .before .before in
-    let e = ready-at d in
-    let s = entry e in
-    let a = s .args in
-    let r = p .put-rows in
-    sketched (a .zones) (a .tails .now) (a .heads .now) (a .work .now) (e .ready .last .1 .1 .1 .0) (s .pre .ready)
-    (readied-there e) (d .name-all .last .0) (d .name-all .result) (components-here d) (a .from .now) (a .to .now)
-    (s .pre) (r .last .1 .1 .1 .0) (r .last .1 .1 .1 .1 .1 .0) (r .last .1 .1 .1 .1 .1 .1 .0) (r .result)
-    (rw (zones-are e) at (r .ensures)) (x .clear .last .0)
-    (subst (λ (k : ℕ). x .clear .last .0 ≡ cleared k (r .last .1 .1 .1 .0))
-    (ap (λ (m : Map). m .asked) (e .before .before .map-of .ensures)) (x .clear .ensures))
-
 pub sketch-spec : {M : Type 1} → statement M
 sketch-spec =
     tie.close
@@ -142,7 +206,8 @@ sketch-spec =
     map-of-requires
     ready-requires
     name-all-requires
-    put-rows-requires
+    draw-requires
+    sort-requires
     clear-requires
     same-length
     same-length-2

@@ -10,17 +10,17 @@
 -- A test that does not fail is one bound of an accepted network; the arcs go one after the other. Assumes nothing.
 use Prim.Native.Nat.{ℕ, zero, suc, _≤_, _<_}
 use native.Mathlib.Omega.{arith}
-use mathlib.Core.Path.{_≡_, refl, sym, ap, _∙_}
+use mathlib.Core.Path.{_≡_, refl, ap}
 use mathlib.Core.Logic.{⊎-elim}
 use mathlib.Core.List.{List, [], _∷_, List·Memᴰ as In, List·Memᴰ·head, List·Memᴰ·tail}
 use mathlib.Core.List.{List·Memᴰ·cases-cons, List·Memᴰ·not-nil}
 use mathlib.Core.Option.{none}
-use mathlib.Core.Bool.{Bool, false, not, _||_}
+use mathlib.Core.Bool.{false, not}
 use lib.Dec.{eqb, leb, ltb}
 use lib.ListN.{length, getD}
 use borrow.Author.Tests.{leb-false, ltb-false, eqb-true, eqb-false, not-false, le-ltb, lt-leb, eq-eqb, ne-eqb}
-use Rattle.rules.specs.Network.{Arc, _⟶_, Proper}
-use Rattle.rules.specs.File.{Given, Acceptable, zones-bad, arcs-bad}
+use Rattle.rules.specs.Network.{Arc, Proper}
+use Rattle.rules.specs.File.{Acceptable, zones-bad, arcs-bad}
 use Rattle.rules.specs.Calls.{first-trouble, arcs-of, given, handed, arc-tests, arcs-tests, network-tests}
 use Rattle.theory.proofs.Ground.Bools.{or-false}
 use Rattle.theory.proofs.Ground.ArcLists.{arcs-length, index-arcs}

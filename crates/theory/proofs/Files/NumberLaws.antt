@@ -19,13 +19,12 @@ use mathlib.Core.Path.{_≡_, refl, sym, _∙_, ap}
 use mathlib.Core.Logic.{inl, inr}
 use mathlib.Core.Bool.{false}
 use mathlib.Core.List.{List, [], _∷_, _++_}
-use lib.ListN.{length, getD, take, drop}
+use lib.ListN.{length, getD}
 use lib.Dec.{ltb, leb, eqb, lit<}
-use lib.Seq.{take-append-seam, drop-append-seam}
 use borrow.Author.Tests.{ltb-true, ltb-false, leb-false, eqb-false, lt-ltb, le-ltb, lt-leb, ne-eqb}
 use Rattle.rules.specs.Number.{number-bytes, got, number-at, second-group, third-group}
 use Rattle.theory.proofs.Files.Readings.{unless-got, cond-cases, bad-not-got, got-value, got-place, Stands}
-use Rattle.theory.proofs.Files.Readings.{stands-right, stands-first, first-stands, stands-at, stands-nothing}
+use Rattle.theory.proofs.Files.Readings.{stands-right, stands-first, first-stands, stands-nothing}
 
 -- each element is below 256
 abbrev pub Bytes : List ℕ → Type 0

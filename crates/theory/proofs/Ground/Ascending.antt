@@ -1,6 +1,6 @@
 -- Laws of lists that ascend.
 --   above-ascending, above-lower  what ascends from above a number ascends, and does so from above a lower one
---   span-in, in-span, span-ascending, span-length   the numbers in a row
+--   span-in, in-span, span-ascending, span-length, span-more   the numbers in a row
 --   keep-ascending                what a test keeps of a list that ascends
 --   first-lowest                  the first element that passes is the lowest
 --   network-proper                document 01's network of n zones is proper
@@ -9,7 +9,7 @@ use Prim.Native.Nat.{ℕ, zero, suc, _+_, _≤_, _<_}
 use mathlib.Core.Path.{_≡_, refl, _∙_, ap}
 use mathlib.Core.Logic.{inl, inr}
 use mathlib.Core.Bool.{Bool, true}
-use mathlib.Core.List.{List, [], _∷_, List·Memᴰ as In, List·Memᴰ·head, List·Memᴰ·tail, List·Memᴰ·cases-cons}
+use mathlib.Core.List.{List, [], _∷_, _++_, List·Memᴰ as In, List·Memᴰ·head, List·Memᴰ·tail, List·Memᴰ·cases-cons}
 use native.Mathlib.Omega.{arith}
 use native.Mathlib.Decide.{ℕ-discrete}
 use lib.ListN.{length}
@@ -105,3 +105,23 @@ network-proper n es h =
       tails = λ {a} {b} m. let l = h a b m in in-span 0 n (omega arith) (omega arith);
       heads = λ {a} {b} m. let l = h a b m in in-span 0 n (omega arith) (omega arith);
     }
+
+-- a run of numbers is cut anywhere
+span-append : (a m k : ℕ) → span a (m + k) ≡ span a m ++ span (a + m) k
+span-append a zero k = rw (zero-plus k, plus-zero a)
+  where
+    zero-plus : (k : ℕ) → 0 + k ≡ k
+    zero-plus k = omega arith
+
+    plus-zero : (a : ℕ) → a + 0 ≡ a
+    plus-zero a = omega arith
+span-append a (suc m) k =
+    let front : suc m + k ≡ suc (m + k) = omega arith in
+    let next : a + suc m ≡ suc a + m = omega arith in
+    rw (front, next) (ap {B = List ℕ} (λ l. a ∷ l) (span-append (suc a) m k))
+
+-- one number more
+pub span-more : (b : ℕ) → span 0 (b + 1) ≡ span 0 b ++ (b ∷ [])
+span-more b =
+    let e : 0 + b ≡ b = omega arith in
+    rw e at (span-append 0 b 1)

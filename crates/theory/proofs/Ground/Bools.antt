@@ -85,3 +85,19 @@ true-not e = ap not e
 pub or-false : (a b : Bool) → (a || b) ≡ false → (a ≡ false) × (b ≡ false)
 or-false true b e = absurd (true≢false e)
 or-false false b e = (refl, e)
+
+-- one side of a disjunction that is true is true
+pub or-true : (a b : Bool) → (a || b) ≡ true → (a ≡ true) ⊎ (b ≡ true)
+or-true true b e = inl refl
+or-true false b e = inr e
+
+-- a disjunction is true where one side is
+pub true-or : (a b : Bool) → (a ≡ true) ⊎ (b ≡ true) → (a || b) ≡ true
+true-or true b h = refl
+true-or false b (inl e) = absurd (true-not-false e refl)
+true-or false b (inr e) = e
+
+-- the negation of a test that is true
+pub not-true : (b : Bool) → not b ≡ true → b ≡ false
+not-true true e = sym e
+not-true false e = refl

@@ -1,7 +1,7 @@
 -- Laws of the rules' tests on lists, each as what the test's value says of the elements.
 --   any-true, true-any, any-false, false-any          some element passes
 --   every-true, true-every, every-false               every element passes
---   keep-in, in-keep, keep-all, keep-none             the elements kept
+--   keep-in, in-keep, keep-all, keep-none, keep-append   the elements kept
 --   first-true, first-none                            the first element that passes
 --   any-agree, every-agree, keep-agree, first-agree   tests that agree on a list give the same
 --   map-in, in-map, any-map                           the elements of a mapped list
@@ -10,7 +10,7 @@
 use mathlib.Core.Path.{_≡_, refl, sym, _∙_, ap, ap₂}
 use mathlib.Core.Logic.{inl, inr}
 use mathlib.Core.Bool.{Bool, true, false, false≢true, true≢false}
-use mathlib.Core.List.{List, [], _∷_, map, List·Memᴰ as In, List·Memᴰ·head, List·Memᴰ·tail, List·Memᴰ·cases-cons}
+use mathlib.Core.List.{List, [], _∷_, _++_, map, List·Memᴰ as In, List·Memᴰ·head, List·Memᴰ·tail, List·Memᴰ·cases-cons}
 use mathlib.Core.List.{Memᴰ·cast}
 use Rattle.rules.specs.Lists.{keep, any, every, first}
 use Rattle.theory.proofs.Ground.Bools.{bool-cases, true-not-false, false-unless}
@@ -39,6 +39,17 @@ module _ {A : Type 0} (p : A → Bool) where
   -- an element that does not pass is left out
   pub keep-miss : {x : A} (xs : List A) → p x ≡ false → keep p (x ∷ xs) ≡ keep p xs
   keep-miss xs e = rw (e, keep)
+
+  -- what is kept of two lists, one behind the other, is what is kept of each
+  pub keep-append : (xs ys : List A) → keep p (xs ++ ys) ≡ keep p xs ++ keep p ys
+  keep-append [] ys = refl
+  keep-append (x ∷ xs) ys = join (keep p (xs ++ ys)) (keep p xs) (keep p ys) (keep-append xs ys) (p x)
+    where
+      join : (ks ls ms : List A) → ks ≡ ls ++ ms → (t : Bool)
+          → elim t as (λ c. List A) [ true ↦ x ∷ ks | false ↦ ks ]
+          ≡ elim t as (λ c. List A) [ true ↦ x ∷ ls | false ↦ ls ] ++ ms
+      join ks ls ms e true = ap {B = List A} (λ l. x ∷ l) e
+      join ks ls ms e false = e
 
   -- an element in front that passes is the first
   pub first-hit : (d : A) {x : A} (xs : List A) → p x ≡ true → first p d (x ∷ xs) ≡ x

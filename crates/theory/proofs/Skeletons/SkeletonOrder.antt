@@ -1,22 +1,16 @@
--- Which arcs between components the skeleton keeps, found with the names in topological order.
+-- Which arcs between components the skeleton keeps, told by the components that arcs lead to, and the names in order.
 --   Direct N a d        d names a component, not a's, that an arc joins a's to
+--   names-equal         two names of one component are equal
+--   first-direct        an arc that leaves a's component on a way leads to a direct name on that way
 --   direct-crosses      an arc from a name to a direct one crosses if no other direct one reaches its head
 --   crosses-direct, crosses-alone       and only then
 --   Ordered N top m     top lists the m names, and no later one reaches an earlier one
---   Chosen N top a b    b is direct, and no direct one before b in the list reaches b
---   chosen-crosses, crosses-chosen      an arc from a name a crosses exactly where its head is chosen
--- A run from a's component to a third one leaves a's component by an arc, to a direct one. And a name that reaches
--- another stands before it in the list, so it is enough to look at those before. Assumes nothing.
+-- A run from a's component to a third one leaves a's component by an arc, to a direct one. Assumes nothing.
 use Prim.Native.Nat.{ℕ, _<_}
-use native.Mathlib.Nat.{eq-or-lt-of-le}
 use mathlib.Core.Path.{_≡_, sym, _∙_}
-use mathlib.Core.Logic.{_⊎_, inl, inr}
 use mathlib.Core.List.{List·Memᴰ as In}
-use lib.Dec.{ltb}
-use borrow.Author.Tests.{ltb-true, ltb-false}
 use Rattle.rules.specs.Network.{Network, Reach, same, Proper}
 use Rattle.rules.specs.Components.{name}
-use Rattle.theory.proofs.Ground.Bools.{bool-cases}
 use Rattle.theory.proofs.Reaching.Reach.{reach-trans}
 use Rattle.theory.proofs.Reaching.Components.{
   Together,
@@ -45,7 +39,7 @@ joined-zone : {N : Network} → Proper N → {a d : ℕ} → Joined N a d → In
 joined-zone P j = together-zone P (P .tails (j .1)) (j .2)
 
 -- two names of one component are equal
-names-equal : {N : Network} → Proper N → {a b : ℕ} → In a (N .zones) → In b (N .zones)
+pub names-equal : {N : Network} → Proper N → {a b : ℕ} → In a (N .zones) → In b (N .zones)
     → name N a ≡ a → name N b ≡ b → Together N a b → a ≡ b
 names-equal P i j e f t = sym e ∙ name-agree P i j t ∙ f
 
@@ -55,7 +49,7 @@ direct-apart P e D t =
     D .other (sym (names-equal P (joined-zone P (D .arc)) (direct-zone P D) e (D .named) t))
 
 -- an arc that leaves a's component on a way to z leads to a direct name that reaches z
-first-direct : {N : Network} → Proper N → {a z : ℕ} → Leaving N a z → (d : ℕ) × Direct N a d × Reach N d z
+pub first-direct : {N : Network} → Proper N → {a z : ℕ} → Leaving N a z → (d : ℕ) × Direct N a d × Reach N d z
 first-direct {N} P {a} l =
     let y = l .0 .head in
     let i : In y (N .zones) = P .heads (l .1) in
@@ -107,50 +101,8 @@ crosses-alone P {a} {c} C d D ne r =
       to-end = r;
     })
 
--- two places stand in one of three ways
-three-ways : (i j : ℕ) → (i < j) ⊎ ((j ≡ i) ⊎ (j < i))
-three-ways i j =
-    elim (bool-cases (ltb i j)) [ inl e ↦ inl (ltb-true i j e) | inr e ↦ inr (eq-or-lt-of-le (ltb-false i j e)) ]
-
 -- top lists the m names, and no later one reaches an earlier one
 pub record Ordered (N : Network) (top : ℕ → ℕ) (m : ℕ) : Type 0 where
   pub own : (j : ℕ) → j < m → In (top j) (N .zones) × (name N (top j) ≡ top j)
   pub all : (c : ℕ) → In c (N .zones) → name N c ≡ c → (j : ℕ) × (j < m) × (top j ≡ c)
   pub after : (j k : ℕ) → j < k → k < m → Reach N (top k) (top j) → ⊥
-
--- b is direct, and no direct one before b in the list reaches b
-pub record Chosen (N : Network) (top : ℕ → ℕ) (m a b : ℕ) : Type 0 where
-  pub at : ℕ
-  pub low : at < m
-  pub is : top at ≡ b
-  pub direct : Direct N a b
-  pub free : (j : ℕ) → j < at → Direct N a (top j) → Reach N (top j) b → ⊥
-
-module _ {N : Network} (P : Proper N) {top : ℕ → ℕ} {m : ℕ} (O : Ordered N top m) {a b : ℕ} where
-  -- a name that reaches a chosen one stands before it, or is it
-  before-chosen : (X : Chosen N top m a b) (d : ℕ) → Direct N a d → (d ≡ b → ⊥) → Reach N d b → ⊥
-  before-chosen X d D ne r =
-      let i = O .all d (direct-zone P D) (D .named) in
-      elim (three-ways (i .0) (X .at)) [
-        | inl l ↦ X .free (i .0) l (rw (i .2) D) (rw (i .2) r)
-        | inr (inl e) ↦ ne (sym (i .2) ∙ rw e at (X .is))
-        | inr (inr l) ↦ O .after (X .at) (i .0) l (i .1) (rw (i .2, X .is) r)
-      ]
-
-  -- an arc from a name to a chosen one crosses
-  pub chosen-crosses : name N a ≡ a → Chosen N top m a b → Crosses N a b
-  chosen-crosses e X = direct-crosses P e (X .direct) (before-chosen X)
-
-  -- the head of an arc that crosses is chosen
-  pub crosses-chosen : Crosses N a b → Chosen N top m a b
-  crosses-chosen C =
-      let D = crosses-direct C in
-      let i = O .all b (direct-zone P D) (D .named) in
-      record {
-        at = i .0;
-        low = i .1;
-        is = i .2;
-        direct = D;
-        free = λ j l F r.
-            crosses-alone P C (top j) F (λ e. O .after j (i .0) l (i .1) (same (i .2 ∙ sym e))) r;
-      }

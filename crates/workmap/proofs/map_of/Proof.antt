@@ -41,12 +41,22 @@ pairs-at-requires c κs = search needs
 links-at-requires : tie.Need-links-at-requires
 links-at-requires c κs = entry (c .before .before .before .before) .pre .0
 
-cross-at-requires : tie.Need-cross-at-requires
-cross-at-requires c κs = entry (c .before .before .before .before .before) .pre .0
+rings-at-requires : tie.Need-rings-at-requires
+rings-at-requires c κs = entry (c .before .before .before .before .before) .pre .0
+
+places-at-requires : tie.Need-places-at-requires
+places-at-requires c κs = entry (c .before .before .before .before .before .before) .pre .0
+
+table-at-requires : tie.Need-table-at-requires
+table-at-requires c κs = entry (c .before .before .before .before .before .before .before) .pre .0
+
+rows-at-requires-2 : tie.Need-rows-at-requires-2
+rows-at-requires-2 c κs = entry (c .before .before .before .before .before .before .before .before) .pre .0
 
 returns : tie.Need-returns
 returns c =
-    let d = c .before .before .before .before .before in
+    let k = c .before .before .before .before .before .before .before in
+    let d = k .before in
     let o = d .before in
     map-parts
     (o .before .before .before .before .before .asked-work .ensures)
@@ -56,11 +66,14 @@ returns c =
     (o .before .back-at .ensures)
     (o .order-at .ensures)
     (d .names-at .ensures)
-    (c .before .before .before .before .kinds-at .ensures)
-    (c .before .before .before .lists-at .ensures)
-    (c .before .before .pairs-at .ensures)
-    (c .before .links-at .ensures)
-    (c .cross-at .ensures)
+    (k .kinds-at .ensures)
+    (c .before .before .before .before .before .before .lists-at .ensures)
+    (c .before .before .before .before .before .pairs-at .ensures)
+    (c .before .before .before .before .links-at .ensures)
+    (c .before .before .before .rings-at .ensures)
+    (c .before .before .places-at .ensures)
+    (c .before .table-at .ensures)
+    (c .rows-at2 .ensures)
 
 pub map-of-spec : {M : Type 1} → statement M
 map-of-spec =
@@ -77,5 +90,8 @@ map-of-spec =
     lists-at-requires
     pairs-at-requires
     links-at-requires
-    cross-at-requires
+    rings-at-requires
+    places-at-requires
+    table-at-requires
+    rows-at-requires-2
     returns)

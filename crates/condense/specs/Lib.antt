@@ -1,0 +1,2 @@
+-- What condensing asks for and leaves.
+pub mod ComponentArcs

@@ -1,2 +1,0 @@
--- Laws of arcs that are put into two lent lists.
-pub mod Puts

@@ -1,2 +1,0 @@
--- What putting arcs into two lent lists asks and leaves.
-pub mod Putting

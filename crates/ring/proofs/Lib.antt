@@ -1,3 +1,0 @@
--- Laws of the rings of components.
-mod Marking
-pub mod Following

@@ -1,2 +1,0 @@
--- What marking the arcs inside a component asks and leaves.
-pub mod Ring

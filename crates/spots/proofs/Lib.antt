@@ -1,0 +1,2 @@
+-- One turn of noting the places of the components.
+pub mod SpotLaws

@@ -1,0 +1,2 @@
+-- What noting the places of the components asks for and leaves.
+pub mod Spots

@@ -1,0 +1,2 @@
+-- What taking a head of a component leaves.
+pub mod Taking

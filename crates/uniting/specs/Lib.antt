@@ -1,0 +1,2 @@
+-- The rows of a block, and what uniting rows leaves.
+pub mod Uniting
