@@ -32,15 +32,17 @@
  * A REFUSAL has 0 in all values and changes no lent list. Its place is
  *
  *   in linkplan_read   the offset in the file of the first byte of the number
- *                      concerned; for SHORT the file's length; for EXTRA the
+ *                      concerned; for LONG and LOOSE that of its offending
+ *                      last byte; for SHORT the file's length; for EXTRA the
  *                      offset of the first extra byte; for ROOM that of the
  *                      arc count; for SELF that of the arc's head;
- *   in the others      for RANGE and SELF the index of the arc, or, for a zone
- *                      of a reach question, the arc count; otherwise 0.
+ *   in the others      for RANGE, HEAD and SELF the index of the arc, or, for
+ *                      a zone of a reach question, the arc count; otherwise 0.
  *
  * linkplan_read gives the first trouble from left to right. The others test in
- * this order: PAIR, ZONES, ARCS, then arc by arc RANGE and SELF, then the two
- * zones of a reach question (RANGE), then ROOM.
+ * this order: PAIR, ZONES, ARCS, then arc by arc RANGE, HEAD and SELF, then the
+ * two zones of a reach question (RANGE for the first, which counts as a tail,
+ * HEAD for the second), then ROOM.
  *
  * ON SUCCESS the elements of an output list after the result stay as they were.
  * Of the work memory, the first LINKPLAN_WORK(zones, arcs) elements hold zeros
@@ -73,14 +75,15 @@ enum linkplan_refusal {
     LINKPLAN_DONE = 0,   /* no refusal: the result is complete */
     LINKPLAN_SHORT = 1,  /* the file ends inside a number, or before one */
     LINKPLAN_LONG = 2,   /* the third byte of a number says another follows */
-    LINKPLAN_LOOSE = 3,  /* a number is not in its shortest form */
+    LINKPLAN_LOOSE = 3,  /* the last of a number's several bytes is zero */
     LINKPLAN_ZONES = 4,  /* the zone count is 0 or above LINKPLAN_ZONES_MAX */
     LINKPLAN_ARCS = 5,   /* the arc count is above LINKPLAN_ARCS_MAX */
-    LINKPLAN_RANGE = 6,  /* a zone number is not below the zone count */
+    LINKPLAN_RANGE = 6,  /* a tail is not below the zone count */
     LINKPLAN_SELF = 7,   /* an arc's tail is its head */
     LINKPLAN_EXTRA = 8,  /* bytes follow the last arc of the file */
     LINKPLAN_ROOM = 9,   /* an output list or the work memory is too short */
-    LINKPLAN_PAIR = 10   /* a network's tails_len and heads_len differ */
+    LINKPLAN_PAIR = 10,  /* a network's tails_len and heads_len differ */
+    LINKPLAN_HEAD = 11   /* a head is not below the zone count */
 };
 
 /* The numbers in the plan's list `why`. */
@@ -96,7 +99,7 @@ enum linkplan_why {
  * equal length, and the elements after the last arc stay as they were.
  *
  * Values: answer[2] the zone count, answer[3] the arc count.
- * Refusals: SHORT to ROOM.
+ * Refusals: SHORT to ROOM, and HEAD.
  */
 void linkplan_read(const uint8_t *file, size_t file_len,
                    uint16_t *tails, size_t tails_len,
@@ -108,7 +111,7 @@ void linkplan_read(const uint8_t *file, size_t file_len,
  * with ROOM exactly when the file is longer than `file_len`.
  *
  * Value: answer[2] the file's length in bytes.
- * Refusals: PAIR, ZONES, ARCS, RANGE, SELF, ROOM, as for all calls below.
+ * Refusals: PAIR, ZONES, ARCS, RANGE, HEAD, SELF, ROOM, as for all calls below.
  */
 void linkplan_write(size_t zones,
                     const uint16_t *tails, size_t tails_len,

@@ -3,7 +3,24 @@
 //! proved source: not to be changed by hand.
 //!
 //! Every list is a pointer to its first element and its length; `answer` points
-//! to eight numbers.
+//! to eight numbers, of which the first is 0, DONE, or a refusal's number.
+#![allow(dead_code)]
+
+pub const LINKPLAN_DONE: u64 = 0;
+pub const LINKPLAN_SHORT: u64 = 1;
+pub const LINKPLAN_LONG: u64 = 2;
+pub const LINKPLAN_LOOSE: u64 = 3;
+pub const LINKPLAN_ZONES: u64 = 4;
+pub const LINKPLAN_ARCS: u64 = 5;
+pub const LINKPLAN_RANGE: u64 = 6;
+pub const LINKPLAN_SELF: u64 = 7;
+pub const LINKPLAN_EXTRA: u64 = 8;
+pub const LINKPLAN_ROOM: u64 = 9;
+pub const LINKPLAN_PAIR: u64 = 10;
+pub const LINKPLAN_HEAD: u64 = 11;
+pub const LINKPLAN_RING: u16 = 0;
+pub const LINKPLAN_CHAIN: u16 = 1;
+pub const LINKPLAN_BACK: u16 = 2;
 
 extern "C" {
     pub fn linkplan_read(

@@ -1,6 +1,7 @@
 /*
  * plan.c - reads a network file from standard input and prints its plan, as
- * linkplan does; what the other calls say goes to standard error.
+ * linkplan does; what the other calls say, and which byte of a file is bad, goes
+ * to standard error.
  *
  * Build, from this directory, once `rt staticlib clib` has been run:
  *
@@ -31,6 +32,28 @@ static int refused(void)
         return 0;
     printf("refused %lu at %lu\n", (unsigned long)answer[0], (unsigned long)answer[1]);
     return 1;
+}
+
+/* Says on standard error which byte of a refused file it is, and of which number:
+ * as many numbers come before it as bytes below 128 do. */
+static void where(size_t length)
+{
+    static const char *const names[] = { "DONE", "SHORT", "LONG", "LOOSE", "ZONES", "ARCS",
+                                         "RANGE", "SELF", "EXTRA", "ROOM", "PAIR", "HEAD" };
+    size_t place = (size_t)answer[1], number = 0, i;
+
+    for (i = 0; i < place; i++)
+        number += file[i] < 128;
+    if (place < length)
+        fprintf(stderr, "%s: byte %lu is %02x, ", names[answer[0]], (unsigned long)place, (unsigned)file[place]);
+    else
+        fprintf(stderr, "%s: the file ends at byte %lu, ", names[answer[0]], (unsigned long)place);
+    if (answer[0] == LINKPLAN_EXTRA)
+        fprintf(stderr, "after the last arc\n");
+    else if (number < 2)
+        fprintf(stderr, "in the %s count\n", number == 0 ? "zone" : "arc");
+    else
+        fprintf(stderr, "in the %s of arc %lu\n", number % 2 == 0 ? "tail" : "head", (unsigned long)(number / 2 - 1));
 }
 
 /* Says on standard error what the calls other than read and plan answer. A
@@ -66,8 +89,10 @@ int main(void)
 
     length = fread(file, 1, sizeof file, stdin);
     linkplan_read(file, length, tails, LINKPLAN_ARCS_MAX, heads, LINKPLAN_ARCS_MAX, answer);
-    if (refused())
+    if (refused()) {
+        where(length);
         return 0;
+    }
     zones = (size_t)answer[2];
     arcs = (size_t)answer[3];
     others(length, zones, arcs);

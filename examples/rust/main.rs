@@ -1,5 +1,6 @@
 //! Reads a network file from standard input and prints its plan, as linkplan
-//! does; what the other calls say goes to standard error.
+//! does; what the other calls say, and which byte of a file is bad, goes to
+//! standard error.
 //!
 //! Build, from this directory, once `rt staticlib clib` has been run:
 //!
@@ -126,8 +127,27 @@ impl Network {
     }
 }
 
+/// Which byte of a refused file it is, and of which number: as many numbers come
+/// before it as bytes below 128 do.
+fn place_in(file: &[u8], (kind, place): Refusal) -> String {
+    const NAMES: [&str; 12] =
+        ["DONE", "SHORT", "LONG", "LOOSE", "ZONES", "ARCS", "RANGE", "SELF", "EXTRA", "ROOM", "PAIR", "HEAD"];
+    let (name, at) = (NAMES[kind as usize], place as usize);
+    let byte = match file.get(at) {
+        Some(byte) => format!("byte {at} is {byte:02x}"),
+        None => format!("the file ends at byte {at}"),
+    };
+    let part = match file[..at].iter().filter(|&&byte| byte < 128).count() {
+        _ if kind == linkplan::LINKPLAN_EXTRA => "after the last arc".into(),
+        0 => "in the zone count".into(),
+        1 => "in the arc count".into(),
+        number => format!("in the {} of arc {}", ["tail", "head"][number % 2], number / 2 - 1),
+    };
+    format!("{name}: {byte}, {part}")
+}
+
 fn run(file: &[u8]) -> Result<(), Refusal> {
-    let mut network = Network::read(file)?;
+    let mut network = Network::read(file).inspect_err(|&refusal| eprintln!("{}", place_in(file, refusal)))?;
     eprintln!("written again: {}", if network.write()? == file { "the same" } else { "not the same" });
     eprintln!("strong: {}", if network.strong()? { "yes" } else { "no" });
     let last = network.zones - 1;

@@ -4,7 +4,7 @@
 use crate::calls::{call, Calls};
 use crate::chance::Chance;
 use crate::lent::{Held, Lent};
-use crate::model::{self, Answer};
+use crate::model::{self, Answer, Kind};
 use crate::net::Net;
 use crate::properties::SHAPES;
 
@@ -15,6 +15,9 @@ const STRONG: usize = 2;
 const REACH: usize = 3;
 const SKELETON: usize = 4;
 const PLAN: usize = 5;
+
+/// DONE, and every refusal.
+pub const OUTCOMES: usize = Kind::Head as usize + 1;
 
 pub struct Comparer {
     calls: Calls,
@@ -28,7 +31,7 @@ pub struct Comparer {
     /// Print each call before it is made, to find one that never comes back.
     loud: bool,
     /// How often each call gave each refusal, by the model.
-    pub met: [[u64; 11]; 6],
+    pub met: [[u64; OUTCOMES]; 6],
     /// How often each kind of plan came up.
     pub shapes: [u64; SHAPES.len()],
 }
@@ -43,7 +46,7 @@ impl Comparer {
             shown: Vec::new(),
             limit,
             loud,
-            met: [[0; 11]; 6],
+            met: [[0; OUTCOMES]; 6],
             shapes: [0; SHAPES.len()],
         }
     }

@@ -36,6 +36,7 @@ pub enum Kind {
     Extra = 8,
     Room = 9,
     Pair = 10,
+    Head = 11,
 }
 
 #[derive(Clone, Copy, PartialEq, Eq, Debug)]
@@ -61,9 +62,9 @@ pub fn work_asked(zones: usize, arcs: usize) -> usize {
     16 * zones + 3 * arcs
 }
 
-/// The tests that every call on a network makes, in order. The zones of a reach
-/// question come last; other calls give none.
-pub fn check(zones: usize, tails: &[u16], heads: &[u16], question: &[usize]) -> Result<(), Trouble> {
+/// The tests that every call on a network makes, in order. A reach question
+/// comes last: its first zone counts as a tail, its second as a head.
+pub fn check(zones: usize, tails: &[u16], heads: &[u16], question: Option<(usize, usize)>) -> Result<(), Trouble> {
     if tails.len() != heads.len() {
         return trouble(Kind::Pair, 0);
     }
@@ -74,17 +75,21 @@ pub fn check(zones: usize, tails: &[u16], heads: &[u16], question: &[usize]) -> 
         return trouble(Kind::Arcs, 0);
     }
     for (index, (&tail, &head)) in tails.iter().zip(heads).enumerate() {
-        if usize::from(tail) >= zones || usize::from(head) >= zones {
+        if usize::from(tail) >= zones {
             return trouble(Kind::Range, index);
+        }
+        if usize::from(head) >= zones {
+            return trouble(Kind::Head, index);
         }
         if tail == head {
             return trouble(Kind::SelfArc, index);
         }
     }
-    if question.iter().any(|&zone| zone >= zones) {
-        return trouble(Kind::Range, tails.len());
+    match question {
+        Some((from, _)) if from >= zones => trouble(Kind::Range, tails.len()),
+        Some((_, to)) if to >= zones => trouble(Kind::Head, tails.len()),
+        _ => Ok(()),
     }
-    Ok(())
 }
 
 fn room(enough: bool) -> Result<(), Trouble> {
@@ -108,7 +113,7 @@ pub fn read(bytes: &[u8], tails: &mut [u16], heads: &mut [u16]) -> Answer {
 /// Writes a network file. Value: its length.
 pub fn write(zones: usize, tails: &[u16], heads: &[u16], out: &mut [u8]) -> Answer {
     let mut call = || {
-        check(zones, tails, heads, &[])?;
+        check(zones, tails, heads, None)?;
         let bytes = file::bytes(zones, tails, heads);
         room(bytes.len() <= out.len())?;
         out[..bytes.len()].copy_from_slice(&bytes);
@@ -120,7 +125,7 @@ pub fn write(zones: usize, tails: &[u16], heads: &[u16], out: &mut [u8]) -> Answ
 /// Says whether the network is strong. Value: 1 for yes, 0 for no.
 pub fn strong(zones: usize, tails: &[u16], heads: &[u16], work: &mut [u16]) -> Answer {
     let mut call = || {
-        check(zones, tails, heads, &[])?;
+        check(zones, tails, heads, None)?;
         let asked = work_asked(zones, tails.len());
         room(work.len() >= asked)?;
         let yes = graph::components(zones, &graph::rows(zones, tails, heads)).names.len() == 1;
@@ -133,7 +138,7 @@ pub fn strong(zones: usize, tails: &[u16], heads: &[u16], work: &mut [u16]) -> A
 /// Says whether one zone reaches another. Value: 1 for yes, 0 for no.
 pub fn reach(zones: usize, tails: &[u16], heads: &[u16], from: usize, to: usize, work: &mut [u16]) -> Answer {
     let mut call = || {
-        check(zones, tails, heads, &[from, to])?;
+        check(zones, tails, heads, Some((from, to)))?;
         let asked = work_asked(zones, tails.len());
         room(work.len() >= asked)?;
         let yes = graph::reaches(zones, &graph::rows(zones, tails, heads), from, to);
@@ -153,7 +158,7 @@ pub fn skeleton(
     work: &mut [u16],
 ) -> Answer {
     let mut call = || {
-        check(zones, tails, heads, &[])?;
+        check(zones, tails, heads, None)?;
         let asked = work_asked(zones, tails.len());
         room(out_tails.len() >= tails.len() && out_heads.len() >= tails.len() && work.len() >= asked)?;
         let arcs = reduce::skeleton(zones, tails, heads);
@@ -178,7 +183,7 @@ pub fn plan(
     work: &mut [u16],
 ) -> Answer {
     let mut call = || {
-        check(zones, tails, heads, &[])?;
+        check(zones, tails, heads, None)?;
         let asked = work_asked(zones, tails.len());
         let records = from.len().min(to.len()).min(why.len());
         room(records >= zones && work.len() >= asked)?;

@@ -10,7 +10,7 @@ use std::slice::{from_raw_parts, from_raw_parts_mut};
 use std::sync::atomic::{AtomicUsize, Ordering};
 
 /// What is wrong; fault 0 is none.
-pub const FAULTS: [&str; 36] = [
+pub const FAULTS: [&str; 41] = [
     "nothing",
     "a refusal's place is one too high",
     "a refusal keeps a value",
@@ -33,7 +33,12 @@ pub const FAULTS: [&str; 36] = [
     "ZONES is tested before PAIR",
     "ROOM is tested before RANGE",
     "SELF is tested before RANGE",
-    "LOOSE is placed at the last group",
+    "HEAD is tested before RANGE",
+    "a question's second zone is tested first",
+    "a file's head is tested before its tail",
+    "RANGE is said of a head",
+    "LOOSE is placed at the number's first byte",
+    "LONG is placed one group too early",
     "SHORT is placed at the number's first byte",
     "a file's ROOM is placed at 0",
     "strong is always no",
@@ -95,9 +100,14 @@ fn early(zones: usize, tails: &[u16], heads: &[u16], room: bool) -> Option<Answe
     if fault("ROOM is tested before RANGE") && !room {
         return Some([9, 0, 0, 0, 0, 0, 0, 0]);
     }
+    if fault("HEAD is tested before RANGE") {
+        let place = heads.iter().position(|&head| usize::from(head) >= zones)?;
+        let before = model::check(zones, &tails[..place], &heads[..place], None);
+        return before.is_ok().then_some([11, place as u64, 0, 0, 0, 0, 0, 0]);
+    }
     if fault("SELF is tested before RANGE") {
         let place = tails.iter().zip(heads).position(|(a, b)| a == b)?;
-        let before = model::check(zones, &tails[..place], &heads[..place], &[]);
+        let before = model::check(zones, &tails[..place], &heads[..place], None);
         return before.is_ok().then_some([7, place as u64, 0, 0, 0, 0, 0, 0]);
     }
     None
@@ -106,6 +116,9 @@ fn early(zones: usize, tails: &[u16], heads: &[u16], room: bool) -> Option<Answe
 /// Faults in the answer itself, and then it is handed out.
 unsafe fn give(mut answer: Answer, out: *mut u64) {
     let refused = answer[0] != 0;
+    if fault("RANGE is said of a head") && answer[0] == 11 {
+        answer[0] = 6;
+    }
     if fault("a refusal's place is one too high") && refused {
         answer[1] += 1;
     }
@@ -152,6 +165,16 @@ unsafe fn spoil_work(answer: &Answer, zones: usize, arcs: usize, work: *mut u16,
     }
 }
 
+/// The answer for a file whose tail at `at` is no zone, where its head is tested
+/// first and is none either.
+fn late_tail(bytes: &[u8], at: usize) -> Option<Answer> {
+    let number = |at| model::file::number(bytes, at).ok();
+    let (zones, _) = number(0)?;
+    let (_, at_head) = number(at)?;
+    let (head, _) = number(at_head)?;
+    (head >= zones).then_some([11, at_head as u64, 0, 0, 0, 0, 0, 0])
+}
+
 #[cfg_attr(feature = "exported", no_mangle)]
 pub unsafe extern "C" fn linkplan_read(
     file: *const u8, file_len: usize,
@@ -161,8 +184,14 @@ pub unsafe extern "C" fn linkplan_read(
     let bytes = from_raw_parts(file, cut_len);
     let mut answer = model::read(bytes, from_raw_parts_mut(tails, tails_len), from_raw_parts_mut(heads, heads_len));
     let start = answer[1] as usize;
-    if fault("LOOSE is placed at the last group") && answer[0] == 3 {
-        answer[1] += bytes[start..].iter().position(|&byte| byte < 128).unwrap() as u64;
+    if fault("LOOSE is placed at the number's first byte") && answer[0] == 3 {
+        answer[1] -= bytes[..start].iter().rev().take_while(|&&byte| byte >= 128).count() as u64;
+    }
+    if fault("LONG is placed one group too early") && answer[0] == 2 {
+        answer[1] -= 1;
+    }
+    if fault("a file's head is tested before its tail") && answer[0] == 6 {
+        answer = late_tail(bytes, start).unwrap_or(answer);
     }
     if fault("SHORT is placed at the number's first byte") && answer[0] == 1 {
         answer[1] -= bytes.iter().rev().take_while(|&&byte| byte >= 128).count() as u64;
@@ -170,7 +199,7 @@ pub unsafe extern "C" fn linkplan_read(
     if fault("a file's ROOM is placed at 0") && answer[0] == 9 {
         answer[1] = 0;
     }
-    let late = [6, 7, 8].contains(&answer[0]) && start > 5 && tails_len > 0;
+    let late = [6, 7, 8, 11].contains(&answer[0]) && start > 5 && tails_len > 0;
     if fault("a refused file has stored its first arc") && late {
         *tails = u16::from(bytes[2]);
     }
@@ -219,6 +248,10 @@ pub unsafe extern "C" fn linkplan_reach(
     }
     let mut answer = early(zones, tails, heads, work_len > 0)
         .unwrap_or_else(|| model::reach(zones, tails, heads, from, to, memory(work, work_len)));
+    let asked = answer[0] == 6 && answer[1] == tails.len() as u64;
+    if fault("a question's second zone is tested first") && asked && to >= zones {
+        answer[0] = 11;
+    }
     if fault("reach is always no") {
         answer[2] = 0;
     }

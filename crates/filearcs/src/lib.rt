@@ -19,9 +19,9 @@ pub enum ArcRead {
     Refused(Trouble),
 }
 
-// A zone number, which is below the zone count.
-fn zone(s: &[u8], c: Cursor, zones: usize) -> NumberRead
-    ensures { λ r. ⌜ number-reading r ≡ zone-at (now (s .entry)) zones (c .at) ⌝ }
+// A zone number, which is below the zone count, or else refused with this kind.
+fn zone(s: &[u8], c: Cursor, zones: usize, kind: TroubleKind) -> NumberRead
+    ensures { λ r. ⌜ number-reading r ≡ zone-at (now (s .entry)) kind zones (c .at) ⌝ }
 {
     let place = c.at;
     match c.number(s) {
@@ -30,27 +30,24 @@ fn zone(s: &[u8], c: Cursor, zones: usize) -> NumberRead
         }
         NumberRead::Number(z, next) => {
             if zones <= z {
-                return NumberRead::Refused(Trouble {
-                    kind: TroubleKind::Range,
-                    place,
-                });
+                return NumberRead::Refused(Trouble { kind, place });
             }
             return NumberRead::Number(z, next);
         }
     }
 }
 
-// An arc: its tail, its head, and the two distinct.
+// An arc: its tail, its head, and the two distinct. RANGE is said of the tail, HEAD of the head.
 pub fn arc(s: &[u8], c: Cursor, zones: usize) -> ArcRead
     ensures { λ r. ⌜ arc-reading r ≡ arc-at (now (s .entry)) zones (c .at) ⌝ }
 {
-    match zone(s, c, zones) {
+    match zone(s, c, zones, TroubleKind::Range) {
         NumberRead::Refused(t) => {
             return ArcRead::Refused(t);
         }
         NumberRead::Number(tail, mid) => {
             let place = mid.at;
-            match zone(s, mid, zones) {
+            match zone(s, mid, zones, TroubleKind::Head) {
                 NumberRead::Refused(t) => {
                     return ArcRead::Refused(t);
                 }

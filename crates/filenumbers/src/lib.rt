@@ -1,6 +1,7 @@
 // Numbers of a network file: a byte 0 to 127 ends one, and 128 to 255 says that another group of seven bits follows.
 //   Cursor::number    the number at a reading place, or its refusal
 //   number_refused    a refusal, as what reading a number finds
+// LONG and LOOSE are placed at the offending group, which an operator finds with a byte editor.
 ghost use mathlib.Core.Path.{_≡_};
 ghost use Prim.Native.Nat.{_+_, _<_};
 ghost use lib.ListN.{length};
@@ -57,7 +58,7 @@ fn second(s: &[u8], at: usize, low: usize) -> NumberRead
     }
     let b = s[here];
     match b {
-        0 => number_refused(TroubleKind::Loose, at),
+        0 => number_refused(TroubleKind::Loose, here),
         1..=127 => NumberRead::Number(low + 128 * (b as usize), Cursor { at: at + 2 }),
         128..=255 => third(s, at, low + 128 * (b as usize - 128)),
     }
@@ -68,15 +69,15 @@ fn third(s: &[u8], start: usize, low: usize) -> NumberRead
     requires { ⌜ (low < 16384) × (start + 1 < length (now s)) ⌝ }
     ensures { λ r. ⌜ number-reading r ≡ third-group (now (s .entry)) start low ⌝ }
 {
-    let here = start + 2;
+    let last = start + 2;
     let size = s.len();
-    if size <= here {
+    if size <= last {
         return number_refused(TroubleKind::Short, size);
     }
-    let b = s[here];
+    let b = s[last];
     match b {
-        0 => number_refused(TroubleKind::Loose, start),
+        0 => number_refused(TroubleKind::Loose, last),
         1..=127 => NumberRead::Number(low + 16384 * (b as usize), Cursor { at: start + 3 }),
-        128..=255 => number_refused(TroubleKind::Long, start),
+        128..=255 => number_refused(TroubleKind::Long, last),
     }
 }

@@ -55,12 +55,16 @@ fn read_rows() {
           short arc count: 0 1 6 6 2;\
           long arc count: 0 4 6 6 2 128 128 128;\
           loose arc count: 0 3 6 6 2 129 0;\
+          loose count of no arc: 0 3 6 6 2 128 0;\
           4097 arcs: 0 4 6 6 128 8 129 32;\
           short tail: 0 5 6 6 3 2 0 1 130;\
           long tail: 0 7 6 6 3 2 0 1 130 128 128;\
           loose tail: 0 7 6 6 3 2 0 1 130 0 0;\
           tail out of range: 0 6 6 6 3 2 0 1 3 0;\
           first tail out of range: 0 4 6 6 2 1 2 0;\
+          first tail loose: 0 8 6 6 128 8 2 130 0 1 0 1;\
+          first tail of three groups: 0 9 6 6 128 8 2 130 129 1 1 0 1;\
+          first head out of range: 0 6 6 6 3 2 0 3 1 2;\
           first arc to itself: 0 6 6 6 3 2 1 1 0 2;\
           no head: 0 3 6 6 2 1 0;\
           short head: 0 4 6 6 2 1 0 129;\
@@ -68,6 +72,7 @@ fn read_rows() {
           loose head: 0 6 6 6 2 1 0 129 128 0;\
           head out of range: 0 4 6 6 2 1 0 2;\
           head 65537: 0 6 6 6 2 1 0 129 128 4;\
+          tail and head out of range: 0 4 6 6 2 1 2 3;\
           self: 0 4 6 6 2 1 1 1;\
           last arc to itself: 0 6 6 6 3 2 0 1 2 2;",
     );
@@ -95,6 +100,7 @@ fn write_rows() {
         b"write A: 1 6 12 5 5 0 2 0 1 4 2 3 4 4 5;\
           write one zone: 1 1 12 0 0;\
           write 1024 zones: 1 1024 12 2 2 127 128 0 0 0 1023 0;\
+          write longer heads: 1 1024 12 2 2 1 2 0 0 0 128 129;\
           write pair: 1 3 12 2 1 0 1 0 0 0 1;\
           write no zones: 1 0 12 0 0;\
           write 1025 zones: 1 1025 12 0 0;\

@@ -133,10 +133,12 @@ fn main() {
           pair and zones: 0 0 0 0 57 1 0;\
           zones and arcs: 0 0 0 0 57 4097 4097;\
           arcs and range: 0 0 0 1 57 4097 4097;\
+          tail and head of one arc: 0 0 0 3 57 2 2 0 3 0 1 4;\
           range and self in one arc: 0 0 0 3 57 1 1 3 0 0 3;\
           self, then range: 0 0 0 3 57 2 2 1 3 0 1 0;\
           self and room: 0 0 0 3 0 2 2 0 1 0 1 1;\
           network and question: 1 3 0 3 54 2 2 0 3 0 1 2;\
+          from and to: 1 9 9 3 54 2 2 0 1 0 1 2;\
           question and room: 1 0 3 3 0 2 2 0 1 0 1 2;\
           one zone: 0 0 0 1 16 0 0;\
           two zones, no arc: 0 0 0 2 32 0 0;\

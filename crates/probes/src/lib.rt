@@ -49,16 +49,17 @@ pub fn arc(zones: usize, tail: u16, head: u16, i: usize) -> Tested
     let t = tail as usize;
     let h = head as usize;
     let tailed = test(Tested::Fine, zones <= t, TroubleKind::Range, i);
-    let headed = test(tailed, zones <= h, TroubleKind::Range, i);
+    let headed = test(tailed, zones <= h, TroubleKind::Head, i);
     test(headed, t == h, TroubleKind::SelfArc, i)
 }
 
-// The tests of the two zones of a question about a network of so many zones and arcs.
+// The tests of the two zones of a question about a network of so many zones and arcs: the first counts as a tail, the
+// second as a head.
 pub fn question(before: Tested, zones: usize, arcs: usize, from: usize, to: usize) -> Tested
     ensures { λ r. ⌜ Found-after before (question-tests zones arcs from to) r ⌝ }
 {
     let r = test(before, zones <= from, TroubleKind::Range, arcs);
-    test(r, zones <= to, TroubleKind::Range, arcs)
+    test(r, zones <= to, TroubleKind::Head, arcs)
 }
 
 // The test of a lent list's length.

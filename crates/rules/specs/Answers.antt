@@ -1,5 +1,5 @@
--- What the calls answer, in document 01's numbers ("When a call says no").
---   trouble-number      the number of each kind of refusal: nowhere else do these numbers stand
+-- What the calls answer, in the numbers of document 01, "When a call says no", and of document 02, No. 1.
+--   trouble-number   the number of each kind of refusal: nowhere else do these numbers stand
 --   refusal k at     the refusal of a kind at a place, as the code's `Trouble`
 --   Told             what an answer says: the number, the place, and the values
 --   read-told ..     what each case of each call's answer says
@@ -13,7 +13,7 @@ use lib.ListN.{replicate}
 use Rattle.rules.specs.Lists.{over}
 use Rattle.rules.specs.declared.TroubleKind.{TroubleKind}
 use Rattle.rules.specs.declared.TroubleKind.the-variants.{Short, Long, Loose, Zones, Arcs, Range, SelfArc}
-use Rattle.rules.specs.declared.TroubleKind.the-variants.{Extra, Room, Pair}
+use Rattle.rules.specs.declared.TroubleKind.the-variants.{Extra, Room, Pair, Head}
 use Rattle.rules.specs.declared.Trouble.{Trouble}
 use Rattle.rules.specs.declared.ReadAnswer.{ReadAnswer}
 use Rattle.rules.specs.declared.WriteAnswer.{WriteAnswer}
@@ -22,7 +22,7 @@ use Rattle.rules.specs.declared.ReachAnswer.{ReachAnswer}
 use Rattle.rules.specs.declared.SkeletonAnswer.{SkeletonAnswer}
 use Rattle.rules.specs.declared.PlanAnswer.{PlanAnswer}
 
--- document 01's table; DONE is 0
+-- document 01's table, and document 02's further kinds; DONE is 0
 abbrev pub trouble-number : TroubleKind → ℕ
 trouble-number Short = 1
 trouble-number Long = 2
@@ -34,6 +34,7 @@ trouble-number SelfArc = 7
 trouble-number Extra = 8
 trouble-number Room = 9
 trouble-number Pair = 10
+trouble-number Head = 11
 
 -- the refusal of a kind at a place
 abbrev pub refusal : TroubleKind → ℕ → Trouble

@@ -1,7 +1,7 @@
 -- The tests of each call, and what a trouble does to the answer and to what was lent (document 01, "When a call says
--- no"). Promises.antt says with these what each call promises.
+-- no"; document 02, No. 1). Promises.antt says with these what each call promises.
 --   Test, first-trouble   the tests of a call in their order, and the first that fails
---   network-tests         PAIR, ZONES, ARCS, then arc by arc RANGE (tail, then head) and SELF
+--   network-tests         PAIR, ZONES, ARCS, then arc by arc RANGE of the tail, HEAD and SELF
 --   question-tests        the two zones of a reach question
 --   room-test             ROOM: a lent list is shorter than asked
 --   X-tests, X-trouble    the tests of the call X, in their order, and the first that fails
@@ -14,7 +14,7 @@ use mathlib.Core.Bool.{Bool, true, false, not}
 use lib.ListN.{length}
 use lib.Dec.{ltb, leb, eqb}
 use Rattle.rules.specs.declared.TroubleKind.{TroubleKind}
-use Rattle.rules.specs.declared.TroubleKind.the-variants.{Zones, Arcs, Range, SelfArc, Room, Pair}
+use Rattle.rules.specs.declared.TroubleKind.the-variants.{Zones, Arcs, Range, SelfArc, Room, Pair, Head}
 use Rattle.rules.specs.declared.Trouble.{Trouble}
 use Rattle.rules.specs.Lists.{over, cleared}
 use Rattle.rules.specs.Answers.{refusal, Told, done, refused}
@@ -50,10 +50,10 @@ unfoldable pub handed : ℕ → List ℕ → List ℕ → Network
 unfolding arcs-of
 handed n ts hs = network-of n (arcs-of ts hs)
 
--- the tests of the arc of index i: RANGE for the tail, RANGE for the head, SELF
+-- the tests of the arc of index i: RANGE for the tail, HEAD for the head, SELF
 abbrev pub arc-tests : ℕ → ℕ → Arc → List Test
 arc-tests n i e =
-    test (leb n (e .tail)) Range i ∷ test (leb n (e .head)) Range i ∷ test (eqb (e .tail) (e .head)) SelfArc i ∷ []
+    test (leb n (e .tail)) Range i ∷ test (leb n (e .head)) Head i ∷ test (eqb (e .tail) (e .head)) SelfArc i ∷ []
 
 -- arc by arc, from index i on
 abbrev pub arcs-tests : ℕ → ℕ → List Arc → List Test
@@ -69,9 +69,10 @@ network-tests n ts hs =
     ∷ test (arcs-bad (length ts)) Arcs 0
     ∷ arcs-tests n 0 (arcs-of ts hs)
 
--- the tests of the two zones of a question about a network of n zones and m arcs: RANGE, at the arc count
+-- the tests of the two zones of a question about a network of n zones and m arcs: RANGE for the first, which counts as
+-- a tail, and HEAD for the second, both at the arc count
 abbrev pub question-tests : ℕ → ℕ → ℕ → ℕ → List Test
-question-tests n m a b = test (leb n a) Range m ∷ test (leb n b) Range m ∷ []
+question-tests n m a b = test (leb n a) Range m ∷ test (leb n b) Head m ∷ []
 
 -- ROOM: a lent list is shorter than asked
 abbrev pub room-test : ℕ → ℕ → Test

@@ -1,9 +1,10 @@
 -- The proved cases: one constant table, one test that is computed over all its rows, one statement.
---   rows             document 01's lettered cases A to L, and eight networks of shapes that these leave out
+--   rows             document 01's lettered cases A to L (L is 3 at 2 by document 02, No. 1), and eight networks of
+--                    shapes that these leave out
 --   row-right r      whether the definitions give what the row wants: links in order and counts, a skeleton's file,
 --                    or a refusal's number and place
 --   cases-right      every row is right
---   kinds-right      the kinds of refusal have the numbers of document 01's table
+--   kinds-right      the kinds of refusal have the numbers of the documents
 --   row-numbers r    the row as the numbers of a constant array, as the crate `cases` holds it and runs it
 -- An arc is one number, 0x23 for the arc from 2 to 3; a link is one number, 0x150 for the chain link from 5 to 0.
 use Prim.Native.Nat.{ℕ, _+_, _-_, _*_, _/_, _%_}
@@ -23,6 +24,7 @@ use Rattle.rules.specs.declared.TroubleKind.the-variants.{
   Extra,
   Room,
   Pair,
+  Head,
 }
 use Rattle.rules.specs.Lists.{span, every}
 use Rattle.rules.specs.Answers.{trouble-number}
@@ -98,7 +100,7 @@ rows =
     ∷
     -- L: a loose number
     row 76 2 0 (0x80 ∷ 0x80 ∷ 0x00 ∷ [])
-    [] (3 ∷ 0 ∷ [])
+    [] (3 ∷ 2 ∷ [])
     ∷
     -- more sinks than sources, and alone
     row 45 0 4 (0x01 ∷ 0x02 ∷ [])
@@ -189,9 +191,10 @@ pub cases-right : every row-right rows ≡ true
 unfolding row-right
 cases-right = refl
 
--- the kinds of refusal, in the order of document 01's table, are numbered from 1 on
+-- the kinds of refusal, in the order of document 01's table and then of document 02, are numbered from 1 on
 pub kinds-right :
-    map trouble-number (Short ∷ Long ∷ Loose ∷ Zones ∷ Arcs ∷ Range ∷ SelfArc ∷ Extra ∷ Room ∷ Pair ∷ []) ≡ span 1 10
+    map trouble-number (Short ∷ Long ∷ Loose ∷ Zones ∷ Arcs ∷ Range ∷ SelfArc ∷ Extra ∷ Room ∷ Pair ∷ Head ∷ [])
+    ≡ span 1 11
 kinds-right = refl
 
 -- a list with zeros after it, n in all

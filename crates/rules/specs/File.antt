@@ -1,4 +1,4 @@
--- The network file (document 01, "The network file" and "When a call says no").
+-- The network file (document 01, "The network file" and "When a call says no"; document 02, No. 1).
 --   Given              a network as a file holds it: the zone count and the arcs
 --   Acceptable g       a network that a call accepts
 --   file-bytes g       the file that it is written as
@@ -10,7 +10,8 @@ use mathlib.Core.List.{List, [], _∷_, _++_, List·Memᴰ as In}
 use mathlib.Core.Bool.{Bool, _||_}
 use lib.ListN.{length}
 use lib.Dec.{ltb, leb, eqb}
-use Rattle.rules.specs.declared.TroubleKind.the-variants.{Zones, Arcs, Range, SelfArc, Extra, Room}
+use Rattle.rules.specs.declared.TroubleKind.{TroubleKind}
+use Rattle.rules.specs.declared.TroubleKind.the-variants.{Zones, Arcs, Range, SelfArc, Extra, Room, Head}
 use Rattle.rules.specs.Answers.{refusal}
 use Rattle.rules.specs.Network.{Arc, _⟶_}
 use Rattle.rules.specs.Number.{number-bytes, Reading, got, then, unless, number-at}
@@ -54,17 +55,17 @@ abbrev pub arcs-bad : ℕ → Bool
 arcs-bad m = ltb 4096 m
 
 module _ (s : List ℕ) where
-  -- a zone number: RANGE at or above the zone count n
-  unfoldable pub zone-at : ℕ → ℕ → Reading ℕ
+  -- a zone number: at or above the zone count n it is refused, with the kind k
+  unfoldable pub zone-at : TroubleKind → ℕ → ℕ → Reading ℕ
   unfolding number-at
-  zone-at n at = then (number-at s at) λ z next. unless (leb n z) (refusal Range at) (got z next)
+  zone-at k n at = then (number-at s at) λ z next. unless (leb n z) (refusal k at) (got z next)
 
-  -- an arc: its tail, its head, and SELF at the head
+  -- an arc: its tail, RANGE at the tail; its head, HEAD at the head; and SELF at the head
   unfoldable pub arc-at : ℕ → ℕ → Reading Arc
   unfolding zone-at
   arc-at n at =
-      then (zone-at n at) λ t mid.
-      then (zone-at n mid) λ h next. unless (eqb t h) (refusal SelfArc mid) (got (t ⟶ h) next)
+      then (zone-at Range n at) λ t mid.
+      then (zone-at Head n mid) λ h next. unless (eqb t h) (refusal SelfArc mid) (got (t ⟶ h) next)
 
   -- m arcs, one after the other
   unfoldable pub arcs-at : ℕ → ℕ → ℕ → Reading (List Arc)

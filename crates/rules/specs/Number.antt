@@ -3,7 +3,8 @@
 --   Reading           what reading at a place finds: a value and the place after it, or the first trouble
 --   number-at s at    reading the number at a place of the bytes s
 -- A byte 0 to 127 ends a number, 128 to 255 says that another group follows. Each group asks for a byte of its own, so
--- a number is tested for SHORT, LONG and LOOSE group by group, and at most one of the three can hold.
+-- a number is tested for SHORT, LONG and LOOSE group by group, and at most one of the three can hold. LONG and LOOSE
+-- are placed at the offending last group (document 02, No. 1).
 use Prim.Native.Nat.{ℕ, _+_, _-_, _*_, _/_, _%_}
 use mathlib.Core.List.{List, [], _∷_}
 use mathlib.Core.Bool.{Bool, cond}
@@ -39,20 +40,20 @@ module _ (s : List ℕ) (at : ℕ) where
   abbrev pub short : Trouble
   short = refusal Short (length s)
 
-  -- LONG: a third group says that another follows; placed at the number's first byte
+  -- LONG: a third group says that another follows; placed at that group
   abbrev pub long : Trouble
-  long = refusal Long at
+  long = refusal Long (at + 2)
 
-  -- LOOSE: the last of several groups is zero; placed at the number's first byte
-  abbrev pub loose : Trouble
-  loose = refusal Loose at
+  -- LOOSE: the last of several groups is zero; placed at that group, the k-th after the first
+  abbrev pub loose : ℕ → Trouble
+  loose k = refusal Loose (at + k)
 
   -- the third group, after two that are worth `low`
   unfoldable pub third-group : ℕ → Reading ℕ
   third-group low =
       let b = getD s (at + 2) 0 in
       unless (leb (length s) (at + 2)) short
-      (unless (eqb b 0) loose
+      (unless (eqb b 0) (loose 2)
       (cond (ltb b 128) (got (low + 16384 * b) (at + 3)) (bad long)))
 
   -- the second group, after one that is worth `low`
@@ -61,7 +62,7 @@ module _ (s : List ℕ) (at : ℕ) where
   second-group low =
       let b = getD s (at + 1) 0 in
       unless (leb (length s) (at + 1)) short
-      (unless (eqb b 0) loose
+      (unless (eqb b 0) (loose 1)
       (cond (ltb b 128) (got (low + 128 * b) (at + 2)) (third-group (low + 128 * (b - 128)))))
 
   -- the number at a place

@@ -1,13 +1,13 @@
--- Two troubles at once: of each two neighbouring tests of document 01's order, the earlier is told. No definition to
+-- Two troubles at once: of each two neighbouring tests of the documents' order, the earlier is told. No definition to
 -- believe: outside examples, computed.
 --   both-fail, first-told   what calls find that are handed a network with two troubles, and what is to be told
 --   orders-right            they are the same
 --   files-fail, files-told  what reading finds in files with two troubles, and what is to be told
 --   files-right             they are the same
--- "Order: PAIR, ZONES, ARCS, then arc by arc RANGE (tail, then head) and SELF, then the two zones of a reach question
--- (RANGE), then ROOM." That a tail is tested before a head cannot be told: both are RANGE, at the same place.
--- "Reading a file: the first trouble from left to right. A number is tested for 1, 2, 3 and then for its value."
-use Prim.Native.Nat.{ℕ}
+-- Document 01: "Order: PAIR, ZONES, ARCS, then arc by arc RANGE (tail, then head) and SELF, then the two zones of a
+-- reach question (RANGE), then ROOM", and of a file "the first trouble from left to right. A number is tested for 1, 2,
+-- 3 and then for its value." Document 02, No. 1: HEAD, "tested and placed where RANGE was for a head". That HEAD comes
+-- before SELF cannot be told: an arc from a zone to itself has a head that is a zone.
 use mathlib.Core.Path.{_≡_, refl}
 use mathlib.Core.List.{List, [], _∷_}
 use mathlib.Core.Option.{Option, none, some}
@@ -22,6 +22,7 @@ use Rattle.rules.specs.declared.TroubleKind.the-variants.{
   SelfArc,
   Room,
   Pair,
+  Head,
 }
 use Rattle.rules.specs.declared.Trouble.{Trouble}
 use Rattle.rules.specs.Answers.{refusal}
@@ -43,8 +44,14 @@ both-fail =
     -- 4,097 arcs, and a tail that is no zone
     strong-trouble 2 (replicate 4097 2) (replicate 4097 1) []
     ∷
+    -- an arc whose tail and head are no zones
+    strong-trouble 2 (0 ∷ 2 ∷ []) (1 ∷ 3 ∷ []) []
+    ∷
     -- an arc from 2 to itself, where 2 is no zone
     strong-trouble 2 (0 ∷ 2 ∷ []) (1 ∷ 2 ∷ []) []
+    ∷
+    -- a head that is no zone, and a later tail that is none
+    strong-trouble 2 (0 ∷ 1 ∷ 2 ∷ []) (1 ∷ 2 ∷ 0 ∷ []) []
     ∷
     -- an arc from a zone to itself, and a later one whose head is no zone
     strong-trouble 2 (0 ∷ 1 ∷ 0 ∷ []) (1 ∷ 1 ∷ 2 ∷ []) []
@@ -52,8 +59,11 @@ both-fail =
     -- an arc from a zone to itself, and a question about what is no zone
     reach-trouble 2 (0 ∷ 1 ∷ []) (1 ∷ 1 ∷ []) 2 0 []
     ∷
-    -- a question about what is no zone, and no work memory
-    reach-trouble 2 (0 ∷ []) (1 ∷ []) 0 2 []
+    -- a question from what is no zone to what is none
+    reach-trouble 2 (0 ∷ []) (1 ∷ []) 9 9 []
+    ∷
+    -- a question to what is no zone, and no work memory
+    reach-trouble 2 (0 ∷ []) (1 ∷ []) 0 9 []
     ∷
     -- an arc from a zone to itself, and no room
     write-trouble 2 (0 ∷ 1 ∷ []) (1 ∷ 1 ∷ []) []
@@ -63,16 +73,19 @@ both-fail =
     ∷ records-trouble 2 (0 ∷ 1 ∷ []) (1 ∷ 1 ∷ []) 0 []
     ∷ []
 
--- what document 01's order says of each
+-- what the documents' order says of each
 abbrev pub first-told : List (Option Trouble)
 first-told =
     some (refusal Pair 0)
     ∷ some (refusal Zones 0)
     ∷ some (refusal Arcs 0)
     ∷ some (refusal Range 1)
+    ∷ some (refusal Range 1)
+    ∷ some (refusal Head 1)
     ∷ some (refusal SelfArc 1)
     ∷ some (refusal SelfArc 1)
     ∷ some (refusal Range 1)
+    ∷ some (refusal Head 1)
     ∷ replicate 5 (some (refusal SelfArc 1))
 
 -- the earlier of two tests that fail is told
@@ -97,6 +110,9 @@ files-fail =
     -- three groups that say that another follows, and the end of the bytes
     trouble-found (file-at (0x80 ∷ 0x80 ∷ 0x80 ∷ []) 0 0)
     ∷
+    -- an arc count in a form that is too long, and the bytes end before the arc
+    trouble-found (file-at (0x02 ∷ 0x81 ∷ 0x00 ∷ []) 1 1)
+    ∷
     -- 4,097 arcs, and no room for them
     trouble-found (file-at (0x02 ∷ 0x81 ∷ 0x20 ∷ []) 0 0)
     ∷
@@ -106,8 +122,17 @@ files-fail =
     -- a tail that is no zone, and the bytes end before the head
     trouble-found (file-at (0x02 ∷ 0x01 ∷ 0x02 ∷ []) 1 1)
     ∷
+    -- a tail that is no zone, and a head that is none
+    trouble-found (file-at (0x02 ∷ 0x01 ∷ 0x02 ∷ 0x03 ∷ []) 1 1)
+    ∷
+    -- a tail that is no zone, and a head in a form that is too long
+    trouble-found (file-at (0x02 ∷ 0x01 ∷ 0x02 ∷ 0x80 ∷ 0x00 ∷ []) 1 1)
+    ∷
     -- an arc from 2 to itself, where 2 is no zone
     trouble-found (file-at (0x02 ∷ 0x01 ∷ 0x02 ∷ 0x02 ∷ []) 1 1)
+    ∷
+    -- a head that is no zone, and a byte behind it
+    trouble-found (file-at (0x02 ∷ 0x01 ∷ 0x00 ∷ 0x02 ∷ 0x00 ∷ []) 1 1)
     ∷
     -- an arc from a zone to itself, and a byte behind it
     trouble-found (file-at (0x02 ∷ 0x01 ∷ 0x01 ∷ 0x01 ∷ 0x00 ∷ []) 1 1)
@@ -116,16 +141,20 @@ files-fail =
     trouble-found (file-at (0x02 ∷ 0x01 ∷ 0x01 ∷ 0x81 ∷ []) 1 1)
     ∷ []
 
--- what document 01 says of each
+-- what the documents say of each
 abbrev pub files-told : List (Option Trouble)
 files-told =
     some (refusal Zones 0)
-    ∷ some (refusal Loose 0)
-    ∷ some (refusal Long 0)
+    ∷ some (refusal Loose 2)
+    ∷ some (refusal Long 2)
+    ∷ some (refusal Loose 2)
     ∷ some (refusal Arcs 1)
     ∷ some (refusal Room 1)
     ∷ some (refusal Range 2)
     ∷ some (refusal Range 2)
+    ∷ some (refusal Range 2)
+    ∷ some (refusal Range 2)
+    ∷ some (refusal Head 3)
     ∷ some (refusal SelfArc 3)
     ∷ some (refusal Short 4)
     ∷ []

@@ -5,7 +5,7 @@
 ghost use mathlib.Core.Path.{_≡_};
 ghost use Rattle.rules.specs.Answers.{trouble-number};
 
-// The kinds of refusal of document 01's table, 1 to 10. 0 is DONE, and is no refusal.
+// The kinds of refusal of document 01's table, 1 to 10, and 11 of document 02, No. 1. 0 is DONE, and is no refusal.
 pub enum TroubleKind {
     Short,
     Long,
@@ -17,6 +17,7 @@ pub enum TroubleKind {
     Extra,
     Room,
     Pair,
+    Head,
 }
 
 // The number of a kind of refusal.
@@ -34,6 +35,7 @@ pub fn trouble_number(kind: TroubleKind) -> usize
         TroubleKind::Extra => 8,
         TroubleKind::Room => 9,
         TroubleKind::Pair => 10,
+        TroubleKind::Head => 11,
     }
 }
 

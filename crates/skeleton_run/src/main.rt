@@ -178,6 +178,7 @@ fn main() {
           its skeleton: 4 6 6 83 4 4 0 1 2 3 0 0 0 1 2 3 0;\
           two arcs beside each other: 4 6 6 83 4 4 0 0 1 2 0 0 0 1 2 3 3;\
           one past another: 4 6 6 83 5 5 0 0 1 0 3 0 0 3 1 3 2 2;\
+          a short cut before the way round: 3 6 6 83 3 3 0 0 1 0 0 0 0 2 1 2;\
           from a component to a lower one: 4 6 6 83 4 4 2 3 3 1 0 0 0 3 2 1 0;\
           pair: 4 6 6 83 2 1 0 1 0 0 0 0 0 1;\
           no zones: 0 6 6 83 0 0;\

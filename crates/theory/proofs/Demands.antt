@@ -3,6 +3,7 @@ pub mod Calls
 pub mod Answers
 pub mod Refusals
 pub mod Accepts
+pub mod Pointing
 pub mod Questions
 pub mod Files
 pub mod Skeletons

@@ -8,5 +8,7 @@ pub mod CutShort
 pub mod AnswerLaws
 pub mod Outcomes
 pub mod Troubles
+pub mod Numbering
+pub mod Pointing
 pub mod Accepting
 pub mod SkeletonFile

@@ -8,8 +8,9 @@ pub struct Network {
     pub heads: Vec<u16>,
 }
 
-/// The number that begins at `at`, and the offset after it.
-fn number(bytes: &[u8], at: usize) -> Result<(usize, usize), Trouble> {
+/// The number that begins at `at`, and the offset after it. LONG and LOOSE are
+/// placed at the group that makes them.
+pub fn number(bytes: &[u8], at: usize) -> Result<(usize, usize), Trouble> {
     let mut value = 0;
     for group in 0..3 {
         // A byte is asked for only while fewer than three groups have been
@@ -20,12 +21,12 @@ fn number(bytes: &[u8], at: usize) -> Result<(usize, usize), Trouble> {
         value |= usize::from(byte & 127) << (7 * group);
         if byte < 128 {
             if group > 0 && byte == 0 {
-                return trouble(Kind::Loose, at);
+                return trouble(Kind::Loose, at + group);
             }
             return Ok((value, at + group + 1));
         }
     }
-    trouble(Kind::Long, at)
+    trouble(Kind::Long, at + 2)
 }
 
 /// Reads a whole file; `room` is the length of the shorter output list.
@@ -50,7 +51,7 @@ pub fn parse(bytes: &[u8], room: usize) -> Result<Network, Trouble> {
         }
         let (head, next) = number(bytes, at_head)?;
         if head >= zones {
-            return trouble(Kind::Range, at_head);
+            return trouble(Kind::Head, at_head);
         }
         if tail == head {
             return trouble(Kind::SelfArc, at_head);

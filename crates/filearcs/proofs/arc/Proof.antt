@@ -1,6 +1,7 @@
 -- `arc` meets its contract: each return is the case of `arc-at` that its tests pick. Assumes nothing.
 use mathlib.Core.Path.{_≡_, _∙_, sym, ap}
 use borrow.Author.Needs.{needs}
+use Rattle.rules.specs.declared.TroubleKind.the-variants.{Range, Head}
 use Rattle.rules.specs.Number.{got}
 use Rattle.rules.specs.File.{zone-at}
 use Rattle.filenumbers.specs.Readings.{number-reading}
@@ -15,7 +16,7 @@ entry c = c .before .before .before .before
 -- the tail that was read is a zone number of the file
 tail-read : (c : tie.After-tail) →
     let a = entry c .args in
-    zone-at (a .s .now) (a .zones) (a .c .at) ≡ got (c .tail .given .0 .0) (c .tail .given .0 .1 .0 .at)
+    zone-at (a .s .now) Range (a .zones) (a .c .at) ≡ got (c .tail .given .0 .0) (c .tail .given .0 .1 .0 .at)
 tail-read c = sym (c .before .before .zone .ensures) ∙ ap number-reading (c .tail .given .1)
 
 -- and from where the head was read
@@ -25,7 +26,7 @@ tailed c = c .before .before .before .before
 -- the head that was read is one too
 head-read : (c : tie.After-head) →
     let a = entry (tailed c) .args in
-    zone-at (a .s .now) (a .zones) (tailed c .tail .given .0 .1 .0 .at)
+    zone-at (a .s .now) Head (a .zones) (tailed c .tail .given .0 .1 .0 .at)
     ≡ got (c .head .given .0 .0) (c .head .given .0 .1 .0 .at)
 head-read c = sym (c .before .before .zone2 .ensures) ∙ ap number-reading (c .head .given .1)
 

@@ -29,7 +29,7 @@ returns c =
     let m = c .before .before .before in
     let a = m .before .before .args in
     let e = sym (m .number .ensures) ∙ ap number-reading (c .before .t .given .1) in
-    zone-refused (a .s .now) (a .zones) (a .c .at) e
+    zone-refused (a .s .now) (a .kind) (a .zones) (a .c .at) e
 
 enum-known-z : tie.Need-enum-known-z
 enum-known-z c = search needs
@@ -38,13 +38,13 @@ returns-2 : tie.Need-returns-2
 returns-2 c =
     let l = c .before .before in
     let a = entry l .args in
-    zone-range (a .s .now) (a .zones) (a .c .at) (number-read l) (omega arith)
+    zone-range (a .s .now) (a .kind) (a .zones) (a .c .at) (number-read l) (omega arith)
 
 returns-3 : tie.Need-returns-3
 returns-3 c =
     let l = c .before .before in
     let a = entry l .args in
-    zone-taken (a .s .now) (a .zones) (a .c .at) (number-read l) (omega arith)
+    zone-taken (a .s .now) (a .kind) (a .zones) (a .c .at) (number-read l) (omega arith)
 
 pub zone-spec : {M : Type 1} → statement M
 zone-spec =

@@ -10,8 +10,8 @@ use Rattle.filenumbers.specs.Readings.{number-reading}
 use Rattle.filenumbers.proofs.third.Statement.{statement}
 use Rattle.filenumbers.proofs.third.Tie as tie
 
-add-here : tie.Need-add-here
-add-here c = search needs
+add-last : tie.Need-add-last
+add-last c = search needs
 
 number-refused-requires : tie.Need-number-refused-requires
 number-refused-requires c κs = search needs
@@ -71,7 +71,7 @@ pub third-spec : {M : Type 1} → statement M
 third-spec =
     tie.close
     (tie.spec
-    add-here
+    add-last
     number-refused-requires
     returns
     shared-slice-read-b

@@ -5,16 +5,16 @@
 --   accepted-proper   it is proper
 --   X-accepts         a call that ends with DONE was handed such a network
 --   X-rooms c         the lengths that the call c asks for, each with the length of what was lent
---   Long-enough       each is as long as asked
+--   Long-enough       each is as long as asked;   rooms   they as tests, which say ROOM at 0 (`rooms-say`)
 --   X-answers         where all are, the call ends with DONE and with what the rules give
 --   X-room            where it refuses, it refuses with ROOM
 -- The tests of the network pass, so those of the lent lists decide. Assumes nothing.
 use Prim.Native.Nat.{ℕ, _≤_, _<_}
 use mathlib.Core.Path.{_≡_, refl, sym, _∙_}
-use mathlib.Core.Logic.{_⊎_, inl, inr}
-use mathlib.Core.Bool.{Bool, true, false}
+use mathlib.Core.Logic.{inl, inr}
+use mathlib.Core.Bool.{Bool}
 use mathlib.Core.List.{List, [], _∷_, _++_}
-use mathlib.Core.Option.{Option, none, some}
+use mathlib.Core.Option.{none, some}
 use lib.ListN.{length}
 use lib.Dec.{ltb}
 use borrow.Author.Tests.{le-ltb, lt-leb}
@@ -31,7 +31,7 @@ use Rattle.rules.specs.Skeleton.{skeleton}
 use Rattle.rules.specs.Calls.{Test, first-trouble, question-tests, room-test, asked-work}
 use Rattle.rules.specs.Calls.{write-trouble, strong-trouble, reach-trouble, skeleton-trouble, plan-trouble}
 use Rattle.rules.specs.Calls.{records-trouble}
-use Rattle.theory.proofs.Files.Troubles.{first-trouble-after, both-pass, pass}
+use Rattle.theory.proofs.Files.Troubles.{first-trouble-after, both-pass, pass, fails-or}
 use Rattle.theory.proofs.Files.Accepting.{fine, fine-tests, fine-proper}
 use Rattle.theory.proofs.Demands.Calls.{file-of, tests-of, Handed-in, network, Is-accepted, Write-call}
 use Rattle.theory.proofs.Demands.Calls.{Strong-call, Reach-call, Skeleton-call, Plan-call, Records-call}
@@ -84,7 +84,7 @@ module _ {i : Handed-in} where
   records-accepts c e = tests-accepted i _ (records-done-when c .0 e .0)
 
 -- lengths that are asked for, each with the length of what was lent, as tests
-abbrev rooms : List (ℕ × ℕ) → List Test
+abbrev pub rooms : List (ℕ × ℕ) → List Test
 rooms [] = []
 rooms (p ∷ ps) = room-test (p .0) (p .1) ∷ rooms ps
 
@@ -94,22 +94,18 @@ Long-enough [] = Unit {0}
 Long-enough (p ∷ ps) = (p .0 ≤ p .1) × Long-enough ps
 
 -- then no test fails
-rooms-pass : (ps : List (ℕ × ℕ)) → Long-enough ps → first-trouble (rooms ps) ≡ none
+pub rooms-pass : (ps : List (ℕ × ℕ)) → Long-enough ps → first-trouble (rooms ps) ≡ none
 rooms-pass [] l = refl
 rooms-pass (p ∷ ps) l = pass (ltb (p .1) (p .0)) _ (le-ltb (p .1) (p .0) (l .0)) (rooms-pass ps (l .1))
 
--- a test of a lent list says ROOM, or those after it decide
-room-or : (b : Bool) (u : Option Trouble) {r : Trouble}
-    → _≡_ {A = Option Trouble} (elim b [ true ↦ some (refusal Room 0) | false ↦ u ]) (some r)
-    → (r ≡ refusal Room 0) ⊎ (u ≡ some r)
-room-or true u e = inl cc
-room-or false u e = inr e
-
 -- where one fails, ROOM is said
-rooms-say : (ps : List (ℕ × ℕ)) {r : Trouble} → first-trouble (rooms ps) ≡ some r → r ≡ refusal Room 0
+pub rooms-say : (ps : List (ℕ × ℕ)) {r : Trouble} → first-trouble (rooms ps) ≡ some r → r ≡ refusal Room 0
 rooms-say [] e = cc
 rooms-say (p ∷ ps) e =
-    elim (room-or (ltb (p .1) (p .0)) (first-trouble (rooms ps)) e) [ inl k ↦ k | inr more ↦ rooms-say ps more ]
+    elim (fails-or (ltb (p .1) (p .0)) _ (first-trouble (rooms ps)) e) [
+      | inl k ↦ sym (k .1)
+      | inr more ↦ rooms-say ps (more .1)
+    ]
 
 -- the work memory that is asked for, and the length of what was lent
 abbrev pub work-room : Handed-in → List ℕ → ℕ × ℕ

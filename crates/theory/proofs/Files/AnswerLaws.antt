@@ -16,7 +16,7 @@ use Rattle.rules.specs.Answers.{trouble-number, refusal, Told, done, refused, y
 use Rattle.rules.specs.Answers.{read-told, write-told, strong-told, reach-told, skeleton-told, plan-told}
 use Rattle.rules.specs.declared.TroubleKind.{TroubleKind}
 use Rattle.rules.specs.declared.TroubleKind.the-variants.{Short, Long, Loose, Zones, Arcs, Range, SelfArc}
-use Rattle.rules.specs.declared.TroubleKind.the-variants.{Extra, Room, Pair}
+use Rattle.rules.specs.declared.TroubleKind.the-variants.{Extra, Room, Pair, Head}
 use Rattle.rules.specs.declared.Trouble.{Trouble}
 use Rattle.rules.specs.declared.ReadAnswer.{ReadAnswer}
 use Rattle.rules.specs.declared.WriteAnswer.{WriteAnswer}
@@ -27,7 +27,7 @@ use Rattle.rules.specs.declared.PlanAnswer.{PlanAnswer}
 
 -- the kinds in the order of their numbers, from 1 on
 abbrev kinds : List TroubleKind
-kinds = Short ∷ Long ∷ Loose ∷ Zones ∷ Arcs ∷ Range ∷ SelfArc ∷ Extra ∷ Room ∷ Pair ∷ []
+kinds = Short ∷ Long ∷ Loose ∷ Zones ∷ Arcs ∷ Range ∷ SelfArc ∷ Extra ∷ Room ∷ Pair ∷ Head ∷ []
 
 -- the kind of a number
 abbrev kind-of : ℕ → TroubleKind
@@ -45,6 +45,7 @@ kind-back SelfArc = (refl, lit≤ tt)
 kind-back Extra = (refl, lit≤ tt)
 kind-back Room = (refl, lit≤ tt)
 kind-back Pair = (refl, lit≤ tt)
+kind-back Head = (refl, lit≤ tt)
 
 -- the number of a kind names it
 pub kind-once : (k l : TroubleKind) → trouble-number k ≡ trouble-number l → k ≡ l

@@ -18,10 +18,12 @@ use lib.Seq.{getD-take, length-take-le}
 use lib.Dec.{ltb, leb, eqb}
 use borrow.Author.Tests.{ltb-false, lt-ltb, le-ltb, lt-leb, le-leb}
 use Rattle.rules.specs.declared.Trouble.{Trouble}
-use Rattle.rules.specs.declared.TroubleKind.the-variants.{Short, Long, Loose}
+use Rattle.rules.specs.declared.TroubleKind.{TroubleKind}
+use Rattle.rules.specs.declared.TroubleKind.the-variants.{Short, Range, Head}
 use Rattle.rules.specs.Answers.{refusal}
 use Rattle.rules.specs.Network.{_⟶_}
-use Rattle.rules.specs.Number.{Reading, got, bad, then, unless, short, third-group, second-group, number-at}
+use Rattle.rules.specs.Number.{Reading, got, bad, then, unless, short, long, loose}
+use Rattle.rules.specs.Number.{third-group, second-group, number-at}
 use Rattle.rules.specs.File.{Given, zone-at, arc-at, arcs-at, body-at, counted-at, file-at, zones-bad, arcs-bad}
 use Rattle.rules.specs.Text.{printed, refusal-line}
 use Rattle.theory.proofs.Files.Readings.{bad-not-got, got-place, unless-got, then-got}
@@ -109,15 +111,15 @@ module _ (k : ℕ) where
     unfolding third-group
     third-cut-off at low =
         byte-cut-off (at + 2) _ _ (omega arith) λ b.
-        unless-cut-off (eqb b 0) (refusal Loose at)
-        (cond-cut-off (ltb b 128) (got-cut-off (low + 16384 * b) (at + 3)) (bad-cut-off (refusal Long at) (at + 3)))
+        unless-cut-off (eqb b 0) (loose s at 2)
+        (cond-cut-off (ltb b 128) (got-cut-off (low + 16384 * b) (at + 3)) (bad-cut-off (long s at) (at + 3)))
 
     -- a second group
     second-cut-off : (at low : ℕ) → CutOff (at + 1) (second-group s at low) (second-group part at low)
     unfolding second-group
     second-cut-off at low =
         byte-cut-off (at + 1) _ _ (omega arith) λ b.
-        unless-cut-off (eqb b 0) (refusal Loose at)
+        unless-cut-off (eqb b 0) (loose s at 1)
         (cond-cut-off (ltb b 128) (got-cut-off (low + 128 * b) (at + 2)) (third-cut-off at (low + 128 * (b - 128))))
 
     -- a number: one, two or three groups
@@ -128,16 +130,16 @@ module _ (k : ℕ) where
         cond-cut-off (ltb b 128) (got-cut-off b (at + 1)) (second-cut-off at (b - 128))
 
     -- a zone number
-    zone-cut-off : (n at : ℕ) → CutOff at (zone-at s n at) (zone-at part n at)
+    zone-cut-off : (j : TroubleKind) (n at : ℕ) → CutOff at (zone-at s j n at) (zone-at part j n at)
     unfolding zone-at
-    zone-cut-off n at = then-cut-off (number-cut-off at) λ z next. unless-cut-off (leb n z) _ (got-cut-off z next)
+    zone-cut-off j n at = then-cut-off (number-cut-off at) λ z next. unless-cut-off (leb n z) _ (got-cut-off z next)
 
     -- an arc: its tail and its head
     arc-cut-off : (n at : ℕ) → CutOff at (arc-at s n at) (arc-at part n at)
     unfolding arc-at
     arc-cut-off n at =
-        then-cut-off (zone-cut-off n at) λ t mid.
-        then-cut-off (zone-cut-off n mid) λ h next. unless-cut-off (eqb t h) _ (got-cut-off (t ⟶ h) next)
+        then-cut-off (zone-cut-off Range n at) λ t mid.
+        then-cut-off (zone-cut-off Head n mid) λ h next. unless-cut-off (eqb t h) _ (got-cut-off (t ⟶ h) next)
 
     -- arcs, one after the other
     arcs-cut-off : (n m at : ℕ) → CutOff at (arcs-at s n m at) (arcs-at part n m at)

@@ -15,6 +15,8 @@ use lib.ListN.{length, getD, take}
 use lib.Seq.{take-all, getD-take, length-take-le}
 use lib.Dec.{ltb, eqb}
 use borrow.Author.Tests.{ltb-false, lt-ltb}
+use Rattle.rules.specs.declared.TroubleKind.{TroubleKind}
+use Rattle.rules.specs.declared.TroubleKind.the-variants.{Range, Head}
 use Rattle.rules.specs.Number.{Reading, got, bad, number-at}
 use Rattle.rules.specs.File.{Given, zone-at, arc-at, arcs-at, body-at, counted-at, file-at}
 use Rattle.rules.specs.Text.{printed, plan-lines, refusal-line}
@@ -30,18 +32,18 @@ module _ (s t : List ℕ) (k : ℕ) (long-s : k ≤ length s) (long-t : k ≤ le
   number-cut at h = number-alike s t at (omega arith) (omega arith) (λ i g. same i (omega arith))
 
   -- a zone number is read alike
-  zone-cut : (n at : ℕ) → at + 2 < k → zone-at s n at ≡ zone-at t n at
+  zone-cut : (j : TroubleKind) (n at : ℕ) → at + 2 < k → zone-at s j n at ≡ zone-at t j n at
   unfolding zone-at
-  zone-cut n at h = then-alike (number-at s at) _ _ (number-cut at h) (λ z next e. refl)
+  zone-cut j n at h = then-alike (number-at s at) _ _ (number-cut at h) (λ z next e. refl)
 
   -- an arc is read alike: its head begins at most two bytes after its tail
   arc-cut : (n at : ℕ) → n ≤ 1024 → at + 4 < k → arc-at s n at ≡ arc-at t n at
   unfolding arc-at
   arc-cut n at m h =
-      then-alike (zone-at s n at) _ _ (zone-cut n at (omega arith)) λ z mid e.
-      let r = zone-got s n at e in
+      then-alike (zone-at s Range n at) _ _ (zone-cut Range n at (omega arith)) λ z mid e.
+      let r = zone-got s n Range at e in
       let near = number-next s at (r .1) (omega (arith, r .0)) in
-      then-alike (zone-at s n mid) _ _ (zone-cut n mid (omega arith)) (λ d next f. refl)
+      then-alike (zone-at s Head n mid) _ _ (zone-cut Head n mid (omega arith)) (λ d next f. refl)
 
   -- arcs are read alike: each begins at most four bytes after the one before
   arcs-cut : (n m at : ℕ) → n ≤ 1024 → at + 4 * m < k → arcs-at s n m at ≡ arcs-at t n m at

@@ -18,6 +18,8 @@ use mathlib.Core.List.{List·Memᴰ·not-nil}
 use lib.ListN.{length}
 use lib.Dec.{ltb, leb, eqb}
 use borrow.Author.Tests.{ltb-false, leb-false, eqb-false, le-ltb, lt-leb, ne-eqb}
+use Rattle.rules.specs.declared.TroubleKind.{TroubleKind}
+use Rattle.rules.specs.declared.TroubleKind.the-variants.{Range, Head}
 use Rattle.rules.specs.Network.{Arc}
 use Rattle.rules.specs.Number.{number-bytes, got, number-at}
 use Rattle.rules.specs.File.{Given, Acceptable, arc-bytes, arcs-bytes, file-bytes}
@@ -57,9 +59,10 @@ acceptable-sound g h x i = (h .tails i, h .heads i, h .apart i)
 
 module _ (s : List ℕ) (n : ℕ) where
   -- a zone number that is read is a number below the zone count
-  pub zone-got : (at : ℕ) {z next : ℕ} → zone-at s n at ≡ got z next → (z < n) × (number-at s at ≡ got z next)
+  pub zone-got : (k : TroubleKind) (at : ℕ) {z next : ℕ} → zone-at s k n at ≡ got z next
+      → (z < n) × (number-at s at ≡ got z next)
   unfolding zone-at
-  zone-got at e =
+  zone-got k at e =
       let r = then-got (number-at s at) _ e in
       let u = unless-got (leb n (r .0)) _ _ (r .3) in
       (rw (got-value (u .1)) at (leb-false n (r .0) (u .0)), r .2 ∙ u .1)
@@ -68,11 +71,11 @@ module _ (s : List ℕ) (n : ℕ) where
   arc-got : (at : ℕ) {e : Arc} {next : ℕ} → arc-at s n at ≡ got e next → Arc-got s n at e next
   unfolding arc-at
   arc-got at e =
-      let r = then-got (zone-at s n at) _ e in
-      let q = then-got (zone-at s n (r .1)) _ (r .3) in
+      let r = then-got (zone-at s Range n at) _ e in
+      let q = then-got (zone-at s Head n (r .1)) _ (r .3) in
       let u = unless-got (eqb (r .0) (q .0)) _ _ (q .3) in
-      let t = zone-got at (r .2) in
-      let h = zone-got (r .1) (q .2) in
+      let t = zone-got Range at (r .2) in
+      let h = zone-got Head (r .1) (q .2) in
       subst₂ (Arc-got s n at) (got-value (u .1)) (got-place (u .1))
       (record {
         mid = r .1;
@@ -226,18 +229,18 @@ accepted-acceptable s a b {g} e =
 
 module _ (s : List ℕ) where
   -- where the bytes of a zone number stand, it is read
-  stands-zone : (n at : ℕ) {z next : ℕ} → n ≤ 1024 → z < n → Stands s at (number-bytes z) next
-      → zone-at s n at ≡ got z next
+  stands-zone : (k : TroubleKind) (n at : ℕ) {z next : ℕ} → n ≤ 1024 → z < n → Stands s at (number-bytes z) next
+      → zone-at s k n at ≡ got z next
   unfolding zone-at
-  stands-zone n at {z} k h f = rw (stands-number s at (omega arith) f, lt-leb n z h)
+  stands-zone k n at {z} l h f = rw (stands-number s at (omega arith) f, lt-leb n z h)
 
   -- where the bytes of an arc stand, it is read
   stands-arc : (n at : ℕ) {next : ℕ} (e : Arc) → n ≤ 1024 → Reading-sound n e → Stands s at (arc-bytes e) next
       → arc-at s n at ≡ got e next
   unfolding arc-at arc-bytes
   stands-arc n at e k h f =
-      let t = stands-zone n at k (h .0) (stands-left s (number-bytes (e .tail)) (number-bytes (e .head)) f) in
-      let d = stands-zone n _ k (h .1) (stands-right s (number-bytes (e .tail)) (number-bytes (e .head)) f) in
+      let t = stands-zone Range n at k (h .0) (stands-left s (number-bytes (e .tail)) (number-bytes (e .head)) f) in
+      let d = stands-zone Head n _ k (h .1) (stands-right s (number-bytes (e .tail)) (number-bytes (e .head)) f) in
       rw (t, d, ne-eqb (e .tail) (e .head) (h .2))
 
   -- where the bytes of arcs stand, they are read

@@ -1,5 +1,6 @@
 -- Laws of reading from left to right, and of the bytes that stand at a place.
 --   unless-got, then-got, cond-cases          what a reading that succeeds has passed
+--   unless-bad, then-bad                      where a reading that is refused was
 --   unless-alike, then-alike                  readings that go on alike are alike
 --   Stands s at w next                        the bytes w stand in s from the place `at` up to the place `next`
 --   stands-join, stands-left, stands-right    a text of two parts stands where its parts stand one after the other
@@ -22,6 +23,10 @@ use Rattle.rules.specs.Number.{Reading, got, bad, then, unless}
 pub bad-not-got : {A : Type 0} {t : Trouble} {x : A} {k : ℕ} → bad t ≡ got x k → ⊥
 bad-not-got e = let z : _≡_ {A = ℕ} 0 1 = cc in omega arith
 
+-- equal refusals are of one trouble
+pub bad-once : {A : Type 0} {t u : Trouble} → _≡_ {A = Reading A} (bad t) (bad u) → t ≡ u
+bad-once e = cc
+
 -- equal readings have equal values
 pub got-value : {A : Type 0} {x y : A} {k l : ℕ} → got x k ≡ got y l → x ≡ y
 got-value e = cc
@@ -41,6 +46,18 @@ pub then-got : {A B : Type 0} (r : Reading A) (f : A → ℕ → Reading B) {y :
     → then r f ≡ got y k → (x : A) × (at : ℕ) × (r ≡ got x at) × (f x at ≡ got y k)
 then-got (got x at) f e = (x, at, refl, e)
 then-got (bad t) f e = absurd (bad-not-got e)
+
+-- a reading that is refused past a test: the test failed, and that is the refusal, or the reading after it is refused
+pub unless-bad : {A : Type 0} (b : Bool) (u : Trouble) (r : Reading A) {t : Trouble}
+    → unless b u r ≡ bad t → ((b ≡ true) × (u ≡ t)) ⊎ ((b ≡ false) × (r ≡ bad t))
+unless-bad true u r e = inl (refl, cc)
+unless-bad false u r e = inr (refl, e)
+
+-- two readings one after the other that are refused: the first is, or it succeeds and the second is
+pub then-bad : {A B : Type 0} (r : Reading A) (f : A → ℕ → Reading B) {t : Trouble}
+    → then r f ≡ bad t → (r ≡ bad t) ⊎ ((x : A) × (at : ℕ) × (r ≡ got x at) × (f x at ≡ bad t))
+then-bad (got x at) f e = inr (x, at, refl, e)
+then-bad (bad u) f e = inl (ap bad (bad-once e))
 
 -- readings that go on alike from the same first reading
 pub then-alike : {A B : Type 0} (q : Reading A) {r : Reading A} (f g : A → ℕ → Reading B) → q ≡ r

@@ -7,8 +7,13 @@
 --   passed-append, append-passed   one list after another: each test of both passes
 --   goes-on, stops               what a test that does not fail, and one that fails, makes of the trouble
 --   passes, both-pass            the same said of the first test, and of two lists, by their troubles
+--   fails-or                     where there is a trouble: the first test says it, or those after it do
+--   none-not-some                there is a trouble or none
 -- Each goes by cases on whether the first test fails. Assumes nothing.
+use Prim.Native.Nat.{ℕ}
+use native.Mathlib.Omega.{arith}
 use mathlib.Core.Path.{_≡_, refl, sym, ap, _∙_}
+use mathlib.Core.Logic.{_⊎_, inl, inr}
 use mathlib.Core.List.{List, [], _∷_, _++_}
 use mathlib.Core.Option.{Option, none, some}
 use mathlib.Core.Bool.{Bool, true, false}
@@ -65,6 +70,17 @@ goes-on r u e = rw e
 pub stops : {b : Bool} (r : Trouble) (u : Option Trouble) → b ≡ true
     → _≡_ {A = Option Trouble} (elim b [ true ↦ some r | false ↦ u ]) (some r)
 stops r u e = rw e
+
+-- where there is a trouble, the first test fails and says it, or those after it do
+pub fails-or : (b : Bool) (r : Trouble) (u : Option Trouble) {t : Trouble}
+    → _≡_ {A = Option Trouble} (elim b [ true ↦ some r | false ↦ u ]) (some t)
+    → ((b ≡ true) × (r ≡ t)) ⊎ ((b ≡ false) × (u ≡ some t))
+fails-or true r u e = inl (refl, cc)
+fails-or false r u e = inr (refl, e)
+
+-- there is a trouble or none
+pub none-not-some : {t : Option Trouble} {r : Trouble} → t ≡ none → t ≡ some r → ⊥
+none-not-some e f = let z : _≡_ {A = ℕ} 0 1 = cc in omega arith
 
 -- where two lists of tests have no trouble, neither has
 pub both-pass : (xs ys : List Test) → first-trouble (xs ++ ys) ≡ none
