@@ -4,8 +4,7 @@ use links::put_links;
 use pairing::pair;
 use sides::counts_of;
 use workmap::Side;
-ghost use mathlib.Core.List.{List};
-ghost use Rattle.rules.specs.Network.{Arc, network-of};
+ghost use Rattle.rules.specs.Network.{Network};
 ghost use Rattle.connect.specs.Connect.{Connectable, Connected};
 
 // How many pairs were made, and how many links were put.
@@ -16,9 +15,9 @@ pub struct Connection {
 
 // Pairs the s sources of a side with its t sinks, along its rows, and puts the links; q components are alone.
 pub fn connect(work: &mut [u16], side: Side, s: usize, t: usize, q: usize) -> Connection
-    requires { ⌜ ((es : List Arc) × Connectable (now work) side s t q es) ⌝ }
-    ensures { λ r. ⌜ ((es : List Arc) → Connectable (now (work .entry)) side s t q es
-        → Connected (now (work .entry)) (now (work .exit)) side (network-of (side .rows .zones) es) r) ⌝ }
+    requires { ⌜ ((N : Network) × Connectable (now work) side s t q N) ⌝ }
+    ensures { λ r. ⌜ ((N : Network) → Connectable (now (work .entry)) side s t q N
+        → Connected (now (work .entry)) (now (work .exit)) side N r) ⌝ }
 {
     let p = pair(work, side, s, t);
     let n = counts_of(s, t, q, p);

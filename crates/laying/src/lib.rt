@@ -9,7 +9,8 @@ use survey::survey;
 use workmap::Map;
 ghost use mathlib.Core.Path.{_≡_};
 ghost use Prim.Native.Nat.{min, max};
-ghost use Rattle.arranged.specs.Ready.{Readyable};
+ghost use Rattle.rules.specs.Calls.{handed-with};
+ghost use Rattle.withdrawn.specs.Withdrawn.{Ready-with};
 ghost use Rattle.laying.specs.Layout.{layout-of, Laid-out};
 
 // The lesser of two numbers.
@@ -41,11 +42,12 @@ fn layout_of(k: Counts, made: Connection) -> Layout
 
 // Leaves the plan in the work memory, in the columns that the map names. A strong network has one component, alone,
 // and gets no link. The rule runs on the side with no more sources than sinks.
-pub fn lay(m: Map, tails: &[u16], heads: &[u16], work: &mut [u16]) -> Layout
-    requires { ⌜ Readyable m (now tails) (now heads) (now work) ⌝ }
-    ensures { λ r. ⌜ Laid-out (now (work .entry)) (now (work .exit)) m (now (tails .entry)) (now (heads .entry)) r ⌝ }
+pub fn lay(m: Map, tails: &[u16], heads: &[u16], gone: &[u16], work: &mut [u16]) -> Layout
+    requires { ⌜ Ready-with m (now tails) (now heads) (now gone) (now work) ⌝ }
+    ensures { λ r. ⌜ Laid-out (now (work .entry)) (now (work .exit)) m
+        (handed-with (m .zones) (now (tails .entry)) (now (heads .entry)) (now (gone .entry))) r ⌝ }
 {
-    let k = survey(m, tails, heads, work);
+    let k = survey(m, tails, heads, gone, work);
     let q = k.alone;
     if k.sources + k.sinks + q == 1 {
         let none = Connection { pairs: 0, need: 0 };

@@ -1,4 +1,4 @@
--- What the calls answer, in the numbers of document 01, "When a call says no", and of document 02, No. 1.
+-- What the calls answer, in the numbers of document 01, "When a call says no", and of document 02, No. 1 and 2.
 --   trouble-number   the number of each kind of refusal: nowhere else do these numbers stand
 --   refusal k at     the refusal of a kind at a place, as the code's `Trouble`
 --   Told             what an answer says: the number, the place, and the values
@@ -13,7 +13,7 @@ use lib.ListN.{replicate}
 use Rattle.rules.specs.Lists.{over}
 use Rattle.rules.specs.declared.TroubleKind.{TroubleKind}
 use Rattle.rules.specs.declared.TroubleKind.the-variants.{Short, Long, Loose, Zones, Arcs, Range, SelfArc}
-use Rattle.rules.specs.declared.TroubleKind.the-variants.{Extra, Room, Pair, Head}
+use Rattle.rules.specs.declared.TroubleKind.the-variants.{Extra, Room, Pair, Head, ZoneList, None, Gone}
 use Rattle.rules.specs.declared.Trouble.{Trouble}
 use Rattle.rules.specs.declared.ReadAnswer.{ReadAnswer}
 use Rattle.rules.specs.declared.WriteAnswer.{WriteAnswer}
@@ -35,6 +35,9 @@ trouble-number Extra = 8
 trouble-number Room = 9
 trouble-number Pair = 10
 trouble-number Head = 11
+trouble-number ZoneList = 12
+trouble-number None = 13
+trouble-number Gone = 14
 
 -- the refusal of a kind at a place
 abbrev pub refusal : TroubleKind → ℕ → Trouble

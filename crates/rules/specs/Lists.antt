@@ -3,12 +3,14 @@
 --   keep p xs     the elements that pass the test p, in their order
 --   any p xs      whether some element passes;  every p xs   whether all do
 --   first p d xs  the first element that passes, d where none does
+--   listed xs z   whether the number z stands in the list
 --   over new old  a lent list after a result: the result, and past it what was there
 --   cleared k w   a lent list whose first k elements now are zeros
 -- Each test stops where its answer is settled, so that the checker computes no more than it must.
 use Prim.Native.Nat.{ℕ, zero, suc}
 use mathlib.Core.List.{List, [], _∷_, _++_}
 use mathlib.Core.Bool.{Bool, true, false}
+use lib.Dec.{eqb}
 use lib.ListN.{length, drop, replicate}
 
 -- n numbers in a row, from a on
@@ -35,6 +37,10 @@ every p (x ∷ xs) = elim (p x) [ true ↦ every p xs | false ↦ false ]
 abbrev pub first : {A : Type 0} → (A → Bool) → A → List A → A
 first p d [] = d
 first p d (x ∷ xs) = elim (p x) [ true ↦ x | false ↦ first p d xs ]
+
+-- whether a number stands in a list
+abbrev pub listed : List ℕ → ℕ → Bool
+listed xs z = any (eqb z) xs
 
 -- what a lent list holds after a result was put into it: the result, and past it what was there
 abbrev pub over : {A : Type 0} → List A → List A → List A

@@ -1,7 +1,8 @@
--- A network, and which zone reaches which (document 01, "What the tool covers").
+-- A network, and which zone reaches which (document 01, "What the tool covers"; document 02, No. 2).
 --   a ⟶ b           the arc from zone a to zone b;   tails-of, heads-of   the tails and the heads of arcs
 --   Network         zones, ascending, and arcs, in any order and with repeats
 --   network-of n es document 01's network: every number below n is a zone
+--   network-with n es gone   document 02's: the zones are those that remain once the numbers of `gone` are withdrawn
 --   added N es      the network with more arcs
 --   Reach N a b     a reaches b: the meaning;   reaches N a b: the test
 --   Strong N        every zone reaches every zone: the meaning;   strong N: the test
@@ -11,9 +12,9 @@
 use Prim.Native.Nat.{ℕ, _<_}
 use mathlib.Core.Path.{_≡_}
 use mathlib.Core.List.{List, [], _∷_, _++_, map, List·Memᴰ as In}
-use mathlib.Core.Bool.{Bool, true, false, _&&_}
+use mathlib.Core.Bool.{Bool, true, false, not, _&&_}
 use lib.Dec.{eqb}
-use Rattle.rules.specs.Lists.{span, any, every}
+use Rattle.rules.specs.Lists.{span, keep, any, every, listed}
 
 -- an arc: water goes from its tail to its head
 pub record Arc : Type 0 where
@@ -39,6 +40,14 @@ pub record Network : Type 0 where
 -- document 01's network: zones are numbered from 0, and every number below the zone count is a zone
 abbrev pub network-of : ℕ → List Arc → Network
 network-of n es = record { zones = span 0 n; arcs = es }
+
+-- the zones that remain: the numbers below the zone count that are not withdrawn, ascending
+abbrev pub remaining : ℕ → List ℕ → List ℕ
+remaining n gone = keep (λ z. not (listed gone z)) (span 0 n)
+
+-- document 02's network: the zones are those that remain
+abbrev pub network-with : ℕ → List Arc → List ℕ → Network
+network-with n es gone = record { zones = remaining n gone; arcs = es }
 
 -- the network with more arcs
 abbrev pub added : Network → List Arc → Network

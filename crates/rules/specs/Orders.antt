@@ -36,41 +36,41 @@ abbrev pub both-fail : List (Option Trouble)
 unfolding arcs-of written write-trouble strong-trouble reach-trouble skeleton-trouble plan-trouble records-trouble
 both-fail =
     -- lists of different lengths, and no zone
-    strong-trouble 0 (0 ∷ []) [] []
+    strong-trouble 0 (0 ∷ []) [] [] []
     ∷
     -- no zone, and 4,097 arcs
-    strong-trouble 0 (replicate 4097 0) (replicate 4097 0) []
+    strong-trouble 0 (replicate 4097 0) (replicate 4097 0) [] []
     ∷
     -- 4,097 arcs, and a tail that is no zone
-    strong-trouble 2 (replicate 4097 2) (replicate 4097 1) []
+    strong-trouble 2 (replicate 4097 2) (replicate 4097 1) [] []
     ∷
     -- an arc whose tail and head are no zones
-    strong-trouble 2 (0 ∷ 2 ∷ []) (1 ∷ 3 ∷ []) []
+    strong-trouble 2 (0 ∷ 2 ∷ []) (1 ∷ 3 ∷ []) [] []
     ∷
     -- an arc from 2 to itself, where 2 is no zone
-    strong-trouble 2 (0 ∷ 2 ∷ []) (1 ∷ 2 ∷ []) []
+    strong-trouble 2 (0 ∷ 2 ∷ []) (1 ∷ 2 ∷ []) [] []
     ∷
     -- a head that is no zone, and a later tail that is none
-    strong-trouble 2 (0 ∷ 1 ∷ 2 ∷ []) (1 ∷ 2 ∷ 0 ∷ []) []
+    strong-trouble 2 (0 ∷ 1 ∷ 2 ∷ []) (1 ∷ 2 ∷ 0 ∷ []) [] []
     ∷
     -- an arc from a zone to itself, and a later one whose head is no zone
-    strong-trouble 2 (0 ∷ 1 ∷ 0 ∷ []) (1 ∷ 1 ∷ 2 ∷ []) []
+    strong-trouble 2 (0 ∷ 1 ∷ 0 ∷ []) (1 ∷ 1 ∷ 2 ∷ []) [] []
     ∷
     -- an arc from a zone to itself, and a question about what is no zone
-    reach-trouble 2 (0 ∷ 1 ∷ []) (1 ∷ 1 ∷ []) 2 0 []
+    reach-trouble 2 (0 ∷ 1 ∷ []) (1 ∷ 1 ∷ []) [] 2 0 []
     ∷
     -- a question from what is no zone to what is none
-    reach-trouble 2 (0 ∷ []) (1 ∷ []) 9 9 []
+    reach-trouble 2 (0 ∷ []) (1 ∷ []) [] 9 9 []
     ∷
     -- a question to what is no zone, and no work memory
-    reach-trouble 2 (0 ∷ []) (1 ∷ []) 0 9 []
+    reach-trouble 2 (0 ∷ []) (1 ∷ []) [] 0 9 []
     ∷
     -- an arc from a zone to itself, and no room
-    write-trouble 2 (0 ∷ 1 ∷ []) (1 ∷ 1 ∷ []) []
-    ∷ strong-trouble 2 (0 ∷ 1 ∷ []) (1 ∷ 1 ∷ []) []
-    ∷ skeleton-trouble 2 (0 ∷ 1 ∷ []) (1 ∷ 1 ∷ []) [] [] []
-    ∷ plan-trouble 2 (0 ∷ 1 ∷ []) (1 ∷ 1 ∷ []) [] [] [] []
-    ∷ records-trouble 2 (0 ∷ 1 ∷ []) (1 ∷ 1 ∷ []) 0 []
+    write-trouble 2 (0 ∷ 1 ∷ []) (1 ∷ 1 ∷ []) [] []
+    ∷ strong-trouble 2 (0 ∷ 1 ∷ []) (1 ∷ 1 ∷ []) [] []
+    ∷ skeleton-trouble 2 (0 ∷ 1 ∷ []) (1 ∷ 1 ∷ []) [] [] [] []
+    ∷ plan-trouble 2 (0 ∷ 1 ∷ []) (1 ∷ 1 ∷ []) [] [] [] [] []
+    ∷ records-trouble 2 (0 ∷ 1 ∷ []) (1 ∷ 1 ∷ []) [] 0 []
     ∷ []
 
 -- what the documents' order says of each

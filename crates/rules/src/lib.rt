@@ -5,7 +5,8 @@
 ghost use mathlib.Core.Path.{_≡_};
 ghost use Rattle.rules.specs.Answers.{trouble-number};
 
-// The kinds of refusal of document 01's table, 1 to 10, and 11 of document 02, No. 1. 0 is DONE, and is no refusal.
+// The kinds of refusal of document 01's table, 1 to 10, and of document 02: 11 of No. 1, 12 to 14 of No. 2. 0 is DONE,
+// and is no refusal.
 pub enum TroubleKind {
     Short,
     Long,
@@ -18,6 +19,9 @@ pub enum TroubleKind {
     Room,
     Pair,
     Head,
+    ZoneList,
+    None,
+    Gone,
 }
 
 // The number of a kind of refusal.
@@ -36,6 +40,9 @@ pub fn trouble_number(kind: TroubleKind) -> usize
         TroubleKind::Room => 9,
         TroubleKind::Pair => 10,
         TroubleKind::Head => 11,
+        TroubleKind::ZoneList => 12,
+        TroubleKind::None => 13,
+        TroubleKind::Gone => 14,
     }
 }
 

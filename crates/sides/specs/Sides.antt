@@ -12,10 +12,9 @@ use mathlib.Core.Bool.{false}
 use mathlib.Core.List.{List, map}
 use Prim.Native.Nat.{ℕ, _+_, _≤_}
 use lib.ListN.{length}
-use Rattle.rules.specs.Network.{Arc, Network, network-of, strong}
+use Rattle.rules.specs.Network.{Network, strong}
 use Rattle.rules.specs.Components.{sources, sinks}
-use Rattle.rules.specs.Plan.{Ordering, Link, turned-link, upright, upright-plan, plan}
-use Rattle.rules.specs.Calls.{arcs-of}
+use Rattle.rules.specs.Plan.{Ordering, Link, turned, turned-link, upright, upright-plan, plan}
 use Rattle.stations.specs.declared.Counts.{Counts}
 use Rattle.stations.specs.Stations.{stations-end}
 use Rattle.workmap.specs.declared.Map.{Map}
@@ -47,7 +46,7 @@ pub record Roomy (d : Side) : Type 0 where
 pub record As-given (m : Map) (d : Side) : Type 0 where
   pub roomy : Roomy d
   pub below : d .links .why + d .rows .zones ≤ m .rows .starts
-  pub stands : (w ts hs : List ℕ) → Both-ways w m ts hs → Side-stands w (d .rows) (d .lists) (arcs-of ts hs)
+  pub stands : (w : List ℕ) (N : Network) → Both-ways w m N → Side-stands w (d .rows) (d .lists) N
   pub zones : d .rows .zones ≡ m .rows .zones
   pub columns : (w : List ℕ) (ls : List Link) → Columns w (d .links) ls → Columns w (m .links) ls
 
@@ -55,7 +54,7 @@ pub record As-given (m : Map) (d : Side) : Type 0 where
 pub record Turned-round (m : Map) (d : Side) : Type 0 where
   pub roomy : Roomy d
   pub below : d .links .why + d .rows .zones ≤ m .rows .starts
-  pub stands : (w ts hs : List ℕ) → Both-ways w m ts hs → Side-stands w (d .rows) (d .lists) (arcs-of hs ts)
+  pub stands : (w : List ℕ) (N : Network) → Both-ways w m N → Side-stands w (d .rows) (d .lists) (turned N)
   pub zones : d .rows .zones ≡ m .rows .zones
   pub columns :
       (w : List ℕ) (ls : List Link) → Columns w (d .links) ls → Columns w (m .links) (map turned-link ls)
@@ -66,13 +65,11 @@ pub record Rule-side (m : Map) (s t : ℕ) (d : Side) : Type 0 where
   pub zones : d .rows .zones ≡ m .rows .zones
   pub below : d .links .why + d .rows .zones ≤ m .rows .starts
   pub stands :
-      (w ts hs : List ℕ) →
-      Both-ways w m ts hs →
-      s ≡ length (sources (network-of (m .rows .zones) (arcs-of ts hs))) →
-      t ≡ length (sinks (network-of (m .rows .zones) (arcs-of ts hs))) →
-      (es : List Arc)
-      × (Side-stands w (d .rows) (d .lists) es
-      × (network-of (d .rows .zones) es ≡ upright (network-of (m .rows .zones) (arcs-of ts hs))))
+      (w : List ℕ) (N : Network) →
+      Both-ways w m N →
+      s ≡ length (sources N) →
+      t ≡ length (sinks N) →
+      Side-stands w (d .rows) (d .lists) (upright N)
   pub links :
       (w : List ℕ) (N : Network) →
       strong N ≡ false →

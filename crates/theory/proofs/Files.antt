@@ -10,5 +10,6 @@ pub mod Outcomes
 pub mod Troubles
 pub mod Numbering
 pub mod Pointing
+pub mod Listing
 pub mod Accepting
 pub mod SkeletonFile

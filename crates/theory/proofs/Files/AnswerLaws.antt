@@ -16,7 +16,7 @@ use Rattle.rules.specs.Answers.{trouble-number, refusal, Told, done, refused, y
 use Rattle.rules.specs.Answers.{read-told, write-told, strong-told, reach-told, skeleton-told, plan-told}
 use Rattle.rules.specs.declared.TroubleKind.{TroubleKind}
 use Rattle.rules.specs.declared.TroubleKind.the-variants.{Short, Long, Loose, Zones, Arcs, Range, SelfArc}
-use Rattle.rules.specs.declared.TroubleKind.the-variants.{Extra, Room, Pair, Head}
+use Rattle.rules.specs.declared.TroubleKind.the-variants.{Extra, Room, Pair, Head, ZoneList, None, Gone}
 use Rattle.rules.specs.declared.Trouble.{Trouble}
 use Rattle.rules.specs.declared.ReadAnswer.{ReadAnswer}
 use Rattle.rules.specs.declared.WriteAnswer.{WriteAnswer}
@@ -27,7 +27,8 @@ use Rattle.rules.specs.declared.PlanAnswer.{PlanAnswer}
 
 -- the kinds in the order of their numbers, from 1 on
 abbrev kinds : List TroubleKind
-kinds = Short ∷ Long ∷ Loose ∷ Zones ∷ Arcs ∷ Range ∷ SelfArc ∷ Extra ∷ Room ∷ Pair ∷ Head ∷ []
+kinds =
+    Short ∷ Long ∷ Loose ∷ Zones ∷ Arcs ∷ Range ∷ SelfArc ∷ Extra ∷ Room ∷ Pair ∷ Head ∷ ZoneList ∷ None ∷ Gone ∷ []
 
 -- the kind of a number
 abbrev kind-of : ℕ → TroubleKind
@@ -46,6 +47,9 @@ kind-back Extra = (refl, lit≤ tt)
 kind-back Room = (refl, lit≤ tt)
 kind-back Pair = (refl, lit≤ tt)
 kind-back Head = (refl, lit≤ tt)
+kind-back ZoneList = (refl, lit≤ tt)
+kind-back None = (refl, lit≤ tt)
+kind-back Gone = (refl, lit≤ tt)
 
 -- the number of a kind names it
 pub kind-once : (k l : TroubleKind) → trouble-number k ≡ trouble-number l → k ≡ l

@@ -18,7 +18,7 @@ use lib.Dec.{ltb, leb, eqb}
 use borrow.Author.Tests.{ltb-true, leb-true, eqb-true, ltb-false, leb-false}
 use Rattle.rules.specs.declared.TroubleKind.{TroubleKind}
 use Rattle.rules.specs.declared.TroubleKind.the-variants.{Short, Long, Loose, Zones, Arcs, Range, SelfArc}
-use Rattle.rules.specs.declared.TroubleKind.the-variants.{Extra, Room, Pair, Head}
+use Rattle.rules.specs.declared.TroubleKind.the-variants.{Extra, Room, Pair, ZoneList, None, Gone, Head}
 use Rattle.rules.specs.declared.Trouble.{Trouble}
 use Rattle.rules.specs.Network.{Arc}
 use Rattle.rules.specs.Number.{Reading, got, bad, unless, short, long, loose}
@@ -78,8 +78,11 @@ module _ (s : List ℕ) (a b : ℕ) where
   Wrong-at SelfArc p = (n i z at : ℕ) × Tail-at s n i at z × Head-at s n i p z
   -- the byte after the last arc
   Wrong-at Extra p = (m at : ℕ) × Numbered s 1 at m × Begins s (2 + 2 * m) p × (p < length s)
-  -- no file is refused so
+  -- no file is refused so: it has one list of numbers, and no withdrawn ones
   Wrong-at Pair p = ⊥
+  Wrong-at ZoneList p = ⊥
+  Wrong-at None p = ⊥
+  Wrong-at Gone p = ⊥
 
   -- a refusal is right where what it says is wrong stands at its place
   abbrev pub Points : Trouble → Type 0
@@ -325,6 +328,9 @@ module _ (s : List ℕ) (a b : ℕ) where
   wrong-counted SelfArc w = begins-counted s (w .5 .number .begins)
   wrong-counted Extra w = begins-counted s (w .3)
   wrong-counted Pair w = absurd w
+  wrong-counted ZoneList w = absurd w
+  wrong-counted None w = absurd w
+  wrong-counted Gone w = absurd w
 
   -- so is the place of every refusal
   pub file-counted : {t : Trouble} → file-at s a b ≡ bad t → Counted-to s (t .place)
