@@ -18,6 +18,9 @@ pub const LINKPLAN_EXTRA: u64 = 8;
 pub const LINKPLAN_ROOM: u64 = 9;
 pub const LINKPLAN_PAIR: u64 = 10;
 pub const LINKPLAN_HEAD: u64 = 11;
+pub const LINKPLAN_LIST: u64 = 12;
+pub const LINKPLAN_NONE: u64 = 13;
+pub const LINKPLAN_GONE: u64 = 14;
 pub const LINKPLAN_RING: u16 = 0;
 pub const LINKPLAN_CHAIN: u16 = 1;
 pub const LINKPLAN_BACK: u16 = 2;
@@ -38,6 +41,8 @@ extern "C" {
         tails_len: usize,
         heads: *const u16,
         heads_len: usize,
+        gone: *const u16,
+        gone_len: usize,
         file: *mut u8,
         file_len: usize,
         answer: *mut u64,
@@ -48,6 +53,8 @@ extern "C" {
         tails_len: usize,
         heads: *const u16,
         heads_len: usize,
+        gone: *const u16,
+        gone_len: usize,
         work: *mut u16,
         work_len: usize,
         answer: *mut u64,
@@ -58,6 +65,8 @@ extern "C" {
         tails_len: usize,
         heads: *const u16,
         heads_len: usize,
+        gone: *const u16,
+        gone_len: usize,
         from: usize,
         to: usize,
         work: *mut u16,
@@ -70,6 +79,8 @@ extern "C" {
         tails_len: usize,
         heads: *const u16,
         heads_len: usize,
+        gone: *const u16,
+        gone_len: usize,
         out_tails: *mut u16,
         out_tails_len: usize,
         out_heads: *mut u16,
@@ -84,6 +95,8 @@ extern "C" {
         tails_len: usize,
         heads: *const u16,
         heads_len: usize,
+        gone: *const u16,
+        gone_len: usize,
         from: *mut u16,
         from_len: usize,
         to: *mut u16,

@@ -17,7 +17,7 @@ const SKELETON: usize = 4;
 const PLAN: usize = 5;
 
 /// DONE, and every refusal.
-pub const OUTCOMES: usize = Kind::Head as usize + 1;
+pub const OUTCOMES: usize = Kind::Gone as usize + 1;
 
 pub struct Comparer {
     calls: Calls,
@@ -92,10 +92,11 @@ impl Comparer {
         answer
     }
 
-    fn network(&mut self, net: &Net) -> (Lent<u16>, Lent<u16>) {
+    fn network(&mut self, net: &Net) -> (Lent<u16>, Lent<u16>, Lent<u16>) {
         let tails = Lent::input("tails", &net.tails, &mut self.chance);
         let heads = Lent::input("heads", &net.heads, &mut self.chance);
-        (tails, heads)
+        let gone = Lent::input("gone", &net.gone, &mut self.chance);
+        (tails, heads, gone)
     }
 
     pub fn read(&mut self, bytes: &[u8], tails_len: usize, heads_len: usize) -> Answer {
@@ -118,67 +119,67 @@ impl Comparer {
     }
 
     pub fn write(&mut self, net: &Net, file_len: usize) -> Answer {
-        let (mut tails, mut heads) = self.network(net);
+        let (mut tails, mut heads, mut gone) = self.network(net);
         let mut file = Lent::output("file", file_len, &mut self.chance);
-        let right = model::write(net.zones, &net.tails, &net.heads, file.right());
+        let right = model::write(net.zones, &net.tails, &net.heads, &net.gone, file.right());
         let mut answer = self.answer(&right);
         let text = || format!("write: {net} file_len {file_len}");
         self.before(&text);
         unsafe {
             call!(self.calls, linkplan_write(
                 net.zones, tails.pointer(), tails.length(), heads.pointer(), heads.length(),
-                file.pointer(), file.length(),
+                gone.pointer(), gone.length(), file.pointer(), file.length(),
                 answer.pointer(),
             ));
         }
-        self.after(WRITE, &right, &text, &[&answer, &file, &tails, &heads]);
+        self.after(WRITE, &right, &text, &[&answer, &file, &tails, &heads, &gone]);
         right
     }
 
     pub fn strong(&mut self, net: &Net, work_len: usize) -> Answer {
-        let (mut tails, mut heads) = self.network(net);
+        let (mut tails, mut heads, mut gone) = self.network(net);
         let mut work = Lent::output("work", work_len, &mut self.chance);
-        let right = model::strong(net.zones, &net.tails, &net.heads, work.right());
+        let right = model::strong(net.zones, &net.tails, &net.heads, &net.gone, work.right());
         let mut answer = self.answer(&right);
         let text = || format!("strong: {net} work_len {work_len}");
         self.before(&text);
         unsafe {
             call!(self.calls, linkplan_strong(
                 net.zones, tails.pointer(), tails.length(), heads.pointer(), heads.length(),
-                work.pointer(), work.length(),
+                gone.pointer(), gone.length(), work.pointer(), work.length(),
                 answer.pointer(),
             ));
         }
-        self.after(STRONG, &right, &text, &[&answer, &work, &tails, &heads]);
+        self.after(STRONG, &right, &text, &[&answer, &work, &tails, &heads, &gone]);
         right
     }
 
     pub fn reach(&mut self, net: &Net, from: usize, to: usize, work_len: usize) -> Answer {
-        let (mut tails, mut heads) = self.network(net);
+        let (mut tails, mut heads, mut gone) = self.network(net);
         let mut work = Lent::output("work", work_len, &mut self.chance);
-        let right = model::reach(net.zones, &net.tails, &net.heads, from, to, work.right());
+        let right = model::reach(net.zones, &net.tails, &net.heads, &net.gone, from, to, work.right());
         let mut answer = self.answer(&right);
         let text = || format!("reach: {net} from {from} to {to} work_len {work_len}");
         self.before(&text);
         unsafe {
             call!(self.calls, linkplan_reach(
                 net.zones, tails.pointer(), tails.length(), heads.pointer(), heads.length(),
-                from, to, work.pointer(), work.length(),
+                gone.pointer(), gone.length(), from, to, work.pointer(), work.length(),
                 answer.pointer(),
             ));
         }
-        self.after(REACH, &right, &text, &[&answer, &work, &tails, &heads]);
+        self.after(REACH, &right, &text, &[&answer, &work, &tails, &heads, &gone]);
         right
     }
 
     /// `out` has the lengths of the two output lists.
     pub fn skeleton(&mut self, net: &Net, out: [usize; 2], work_len: usize) -> Answer {
-        let (mut tails, mut heads) = self.network(net);
+        let (mut tails, mut heads, mut gone) = self.network(net);
         let mut out_tails = Lent::output("out_tails", out[0], &mut self.chance);
         let mut out_heads = Lent::output("out_heads", out[1], &mut self.chance);
         let mut work = Lent::output("work", work_len, &mut self.chance);
         let right = model::skeleton(
-            net.zones, &net.tails, &net.heads,
+            net.zones, &net.tails, &net.heads, &net.gone,
             out_tails.right(), out_heads.right(), work.right(),
         );
         let mut answer = self.answer(&right);
@@ -187,24 +188,25 @@ impl Comparer {
         unsafe {
             call!(self.calls, linkplan_skeleton(
                 net.zones, tails.pointer(), tails.length(), heads.pointer(), heads.length(),
+                gone.pointer(), gone.length(),
                 out_tails.pointer(), out_tails.length(), out_heads.pointer(), out_heads.length(),
                 work.pointer(), work.length(),
                 answer.pointer(),
             ));
         }
-        self.after(SKELETON, &right, &text, &[&answer, &out_tails, &out_heads, &work, &tails, &heads]);
+        self.after(SKELETON, &right, &text, &[&answer, &out_tails, &out_heads, &work, &tails, &heads, &gone]);
         right
     }
 
     /// `out` has the lengths of the lists from, to and why.
     pub fn plan(&mut self, net: &Net, out: [usize; 3], work_len: usize) -> Answer {
-        let (mut tails, mut heads) = self.network(net);
+        let (mut tails, mut heads, mut gone) = self.network(net);
         let mut from = Lent::output("from", out[0], &mut self.chance);
         let mut to = Lent::output("to", out[1], &mut self.chance);
         let mut why = Lent::output("why", out[2], &mut self.chance);
         let mut work = Lent::output("work", work_len, &mut self.chance);
         let right = model::plan(
-            net.zones, &net.tails, &net.heads,
+            net.zones, &net.tails, &net.heads, &net.gone,
             from.right(), to.right(), why.right(), work.right(),
         );
         let mut answer = self.answer(&right);
@@ -215,18 +217,20 @@ impl Comparer {
         unsafe {
             call!(self.calls, linkplan_plan(
                 net.zones, tails.pointer(), tails.length(), heads.pointer(), heads.length(),
+                gone.pointer(), gone.length(),
                 from.pointer(), from.length(), to.pointer(), to.length(), why.pointer(), why.length(),
                 work.pointer(), work.length(),
                 answer.pointer(),
             ));
         }
-        self.after(PLAN, &right, &text, &[&answer, &from, &to, &why, &work, &tails, &heads]);
+        self.after(PLAN, &right, &text, &[&answer, &from, &to, &why, &work, &tails, &heads, &gone]);
         right
     }
 
     /// Every call on a good network, with just the lengths asked for or a few
     /// elements more. Reach is asked for `questions` pairs, or for all pairs
-    /// where that is `None`.
+    /// where that is `None`; a zone asked about may be withdrawn. The file that
+    /// is read is the network's, which holds no list of withdrawn zones.
     pub fn all(&mut self, net: &Net, questions: Option<usize>) {
         let (zones, arcs) = (net.zones, net.tails.len());
         let work = model::work_asked(zones, arcs);

@@ -11,6 +11,47 @@ use crate::properties;
 /// Zones and arcs; s, t, q, p; the links.
 type Row = (&'static str, usize, &'static [(usize, usize)], [u64; 4], &'static [(u16, u16, u16)]);
 
+/// Zones, arcs and withdrawn numbers; s, t, q, p; the links.
+type GoneRow = (usize, &'static [(usize, usize)], &'static [u16], [u64; 4], &'static [(u16, u16, u16)]);
+
+const GONE_PLANS: &[GoneRow] = &[
+    (3, &[], &[1], [0, 0, 2, 0], &[(0, 2, CHAIN), (2, 0, CHAIN)]),
+    (3, &[], &[0, 2], [0, 0, 1, 0], &[]),
+    (5, &[(1, 2)], &[0, 3], [1, 1, 1, 1], &[(2, 4, CHAIN), (4, 1, CHAIN)]),
+    (5, &[(1, 0), (2, 0)], &[4], [2, 1, 1, 1], &[(2, 1, CHAIN), (3, 2, CHAIN), (0, 3, CHAIN)]),
+    (4, &[(1, 3), (3, 1)], &[0, 2], [0, 0, 1, 0], &[]),
+];
+
+/// Zones, arcs and withdrawn numbers, the two zones of a question, and the
+/// answer's first three numbers.
+type Question = (usize, &'static [(usize, usize)], &'static [u16], (usize, usize), [u64; 3]);
+
+const QUESTIONS: &[Question] = &[
+    // LIST: out of range, not above the one before, the same again; in one walk.
+    (3, &[(0, 1)], &[3], (0, 0), [12, 0, 0]),
+    (7, &[(0, 1)], &[4, 3], (0, 0), [12, 1, 0]),
+    (7, &[(0, 1)], &[4, 4], (0, 0), [12, 1, 0]),
+    (7, &[(0, 1)], &[9, 4], (0, 0), [12, 0, 0]),
+    // LIST comes before NONE, NONE before an arc's trouble.
+    (2, &[], &[0, 1, 1], (0, 0), [12, 2, 0]),
+    (2, &[], &[0, 1], (0, 0), [13, 0, 0]),
+    (2, &[(0, 2)], &[0, 1], (0, 0), [13, 0, 0]),
+    (1, &[], &[0], (0, 0), [13, 0, 0]),
+    // GONE of a tail, of a head; after SELF; arc by arc.
+    (3, &[(0, 1), (2, 0)], &[2], (0, 0), [14, 1, 0]),
+    (3, &[(0, 1), (1, 2)], &[2], (0, 0), [14, 1, 0]),
+    (3, &[(0, 1), (2, 2)], &[2], (0, 0), [7, 1, 0]),
+    (3, &[(2, 0), (3, 1)], &[2], (0, 0), [14, 0, 0]),
+    // A question: answered, GONE of either zone, HEAD before GONE.
+    (3, &[(0, 2)], &[1], (0, 2), [0, 0, 1]),
+    (3, &[(0, 2)], &[1], (2, 0), [0, 0, 0]),
+    (3, &[(0, 2)], &[1], (1, 0), [14, 1, 0]),
+    (3, &[(0, 2)], &[1], (0, 1), [14, 1, 0]),
+    (3, &[(0, 2)], &[1], (1, 1), [14, 1, 0]),
+    (3, &[(0, 2)], &[1], (1, 9), [11, 1, 0]),
+    (3, &[(0, 2)], &[1], (9, 1), [6, 1, 0]),
+];
+
 const PLANS: &[Row] = &[
     ("A", 6, &[(0, 2), (2, 3), (0, 4), (1, 4), (4, 5)], [2, 2, 0, 2], &[(3, 1, RING), (5, 0, CHAIN)]),
     ("B", 1, &[], [0, 0, 1, 0], &[]),
@@ -79,28 +120,48 @@ const FILES: &[(&[u8], [u64; 4])] = &[
     (&[0x06, 0x05, 0, 2, 2, 3, 0, 4, 1, 4, 4, 5], [0, 0, 6, 5]),
 ];
 
+/// Holds the model's plan of a network against what was written out by hand.
+fn planned(to: &mut Comparer, name: &str, net: &Net, counts: [u64; 4], links: &[(u16, u16, u16)]) {
+    to.all(net, None);
+    properties::hold(to, net);
+    let zones = net.zones;
+    let (mut from, mut heads, mut why) = (vec![9; zones], vec![9; zones], vec![9; zones]);
+    let mut work = vec![9; work_asked(zones, net.tails.len())];
+    let answer = model::plan(zones, &net.tails, &net.heads, &net.gone, &mut from, &mut heads, &mut why, &mut work);
+    let [s, t, q, p] = counts;
+    let right: Answer = [0, 0, s, t, q, p, links.len() as u64, 0];
+    to.hold(answer == right, || format!("example {name}: answer {answer:?}, should be {right:?}"));
+    let got: Vec<(u16, u16, u16)> = (0..links.len()).map(|i| (from[i], heads[i], why[i])).collect();
+    to.hold(got == links, || format!("example {name}: links {got:?}, should be {links:?}"));
+}
+
+/// Holds the bytes of the file of the model's skeleton against what was written
+/// out by hand.
+fn reduced(to: &mut Comparer, name: &str, net: &Net, right: &[u8]) {
+    to.all(net, None);
+    properties::hold(to, net);
+    let (tails, heads): (Vec<u16>, Vec<u16>) = properties::of(net).skeleton().into_iter().unzip();
+    let bytes = model::file::bytes(net.zones, &tails, &heads);
+    to.hold(bytes == right, || format!("example {name}: {bytes:02x?}"));
+}
+
 pub fn run(to: &mut Comparer) {
     for &(name, zones, arcs, counts, links) in PLANS {
-        let net = Net::new(zones, arcs);
-        to.all(&net, None);
-        properties::hold(to, &net);
-        let (mut from, mut heads, mut why) = (vec![9; zones], vec![9; zones], vec![9; zones]);
-        let mut work = vec![9; work_asked(zones, arcs.len())];
-        let answer = model::plan(zones, &net.tails, &net.heads, &mut from, &mut heads, &mut why, &mut work);
-        let [s, t, q, p] = counts;
-        let right: Answer = [0, 0, s, t, q, p, links.len() as u64, 0];
-        to.hold(answer == right, || format!("example {name}: answer {answer:?}, should be {right:?}"));
-        let got: Vec<(u16, u16, u16)> = (0..links.len()).map(|i| (from[i], heads[i], why[i])).collect();
-        to.hold(got == links, || format!("example {name}: links {got:?}, should be {links:?}"));
+        planned(to, name, &Net::new(zones, arcs), counts, links);
+    }
+    for &(zones, arcs, gone, counts, links) in GONE_PLANS {
+        planned(to, "with withdrawn zones", &Net::new(zones, arcs).without(gone), counts, links);
+    }
+    for &(zones, arcs, gone, (from, second), right) in QUESTIONS {
+        let net = Net::new(zones, arcs).without(gone);
+        let answer = to.reach(&net, from, second, work_asked(zones, arcs.len()));
+        to.hold(answer[..3] == right, || format!("example {net} {from} to {second}: {answer:?}, should be {right:?}"));
     }
 
     let net = Net::new(4, &[(0, 1), (1, 2), (0, 2), (2, 1), (2, 3), (0, 3)]);
-    to.all(&net, None);
-    properties::hold(to, &net);
-    let (tails, heads): (Vec<u16>, Vec<u16>) =
-        model::reduce::skeleton(4, &net.tails, &net.heads).into_iter().unzip();
-    let bytes = model::file::bytes(4, &tails, &heads);
-    to.hold(bytes == [4, 4, 0, 1, 1, 2, 1, 3, 2, 1], || format!("example J: {bytes:02x?}"));
+    reduced(to, "J", &net, &[4, 4, 0, 1, 1, 2, 1, 3, 2, 1]);
+    let net = Net::new(4, &[(0, 2), (2, 0), (0, 3), (2, 3)]).without(&[1]);
+    reduced(to, "J with a withdrawn zone", &net, &[4, 3, 0, 2, 0, 3, 2, 0]);
 
     for &(bytes, right) in FILES {
         let answer = to.read(bytes, 4096, 4096);

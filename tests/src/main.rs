@@ -23,6 +23,7 @@ mod properties;
 mod random;
 mod selftest;
 mod small;
+mod withdrawn;
 mod words;
 mod wrong;
 
@@ -31,17 +32,17 @@ use properties::SHAPES;
 use std::process::exit;
 use std::time::Instant;
 
-const SECTIONS: [&str; 5] = ["examples", "small", "random", "files", "large"];
+const SECTIONS: [&str; 6] = ["examples", "small", "withdrawn", "random", "files", "large"];
 
 /// The refusals that each call can give, DONE included; all must come up in a
 /// run of all sections.
 const CAN: [&[usize]; 6] = [
     &[0, 1, 2, 3, 4, 5, 6, 7, 8, 9, 11],
-    &[0, 4, 5, 6, 7, 9, 10, 11],
-    &[0, 4, 5, 6, 7, 9, 10, 11],
-    &[0, 4, 5, 6, 7, 9, 10, 11],
-    &[0, 4, 5, 6, 7, 9, 10, 11],
-    &[0, 4, 5, 6, 7, 9, 10, 11],
+    &[0, 4, 5, 6, 7, 9, 10, 11, 12, 13, 14],
+    &[0, 4, 5, 6, 7, 9, 10, 11, 12, 13, 14],
+    &[0, 4, 5, 6, 7, 9, 10, 11, 12, 13, 14],
+    &[0, 4, 5, 6, 7, 9, 10, 11, 12, 13, 14],
+    &[0, 4, 5, 6, 7, 9, 10, 11, 12, 13, 14],
 ];
 
 struct Options {
@@ -75,6 +76,7 @@ fn section(name: &str, to: &mut Comparer, options: &Options) {
     match name {
         "examples" => examples::run(to),
         "small" => small::run(to, 4),
+        "withdrawn" => withdrawn::run(to, if short { 61 } else { 1 }),
         "random" => random::run(to, options.cases.unwrap_or(if short { 60_000 } else { 1_000_000 })),
         "files" if short => files::run(to, 64, 30_000),
         "files" => files::run(to, 1, 1_000_000),

@@ -17,6 +17,10 @@ pub mod graph;
 pub mod links;
 #[path = "model/reduce.rs"]
 pub mod reduce;
+#[path = "model/remaining.rs"]
+pub mod remaining;
+
+use remaining::Remaining;
 
 pub const MOST_ZONES: usize = 1024;
 pub const MOST_ARCS: usize = 4096;
@@ -37,6 +41,9 @@ pub enum Kind {
     Room = 9,
     Pair = 10,
     Head = 11,
+    List = 12,
+    None = 13,
+    Gone = 14,
 }
 
 #[derive(Clone, Copy, PartialEq, Eq, Debug)]
@@ -62,9 +69,20 @@ pub fn work_asked(zones: usize, arcs: usize) -> usize {
     16 * zones + 3 * arcs
 }
 
+/// Where a list of zones is first out of range, or not above the number before.
+fn list_fault(zones: usize, list: &[u16]) -> Option<usize> {
+    (0..list.len()).find(|&index| usize::from(list[index]) >= zones || index > 0 && list[index] <= list[index - 1])
+}
+
 /// The tests that every call on a network makes, in order. A reach question
 /// comes last: its first zone counts as a tail, its second as a head.
-pub fn check(zones: usize, tails: &[u16], heads: &[u16], question: Option<(usize, usize)>) -> Result<(), Trouble> {
+pub fn check(
+    zones: usize,
+    tails: &[u16],
+    heads: &[u16],
+    gone: &[u16],
+    question: Option<(usize, usize)>,
+) -> Result<(), Trouble> {
     if tails.len() != heads.len() {
         return trouble(Kind::Pair, 0);
     }
@@ -73,6 +91,16 @@ pub fn check(zones: usize, tails: &[u16], heads: &[u16], question: Option<(usize
     }
     if tails.len() > MOST_ARCS {
         return trouble(Kind::Arcs, 0);
+    }
+    if let Some(index) = list_fault(zones, gone) {
+        return trouble(Kind::List, index);
+    }
+    let mut withdrawn = vec![false; zones];
+    for &zone in gone {
+        withdrawn[usize::from(zone)] = true;
+    }
+    if withdrawn.iter().all(|&gone| gone) {
+        return trouble(Kind::None, 0);
     }
     for (index, (&tail, &head)) in tails.iter().zip(heads).enumerate() {
         if usize::from(tail) >= zones {
@@ -84,10 +112,14 @@ pub fn check(zones: usize, tails: &[u16], heads: &[u16], question: Option<(usize
         if tail == head {
             return trouble(Kind::SelfArc, index);
         }
+        if withdrawn[usize::from(tail)] || withdrawn[usize::from(head)] {
+            return trouble(Kind::Gone, index);
+        }
     }
     match question {
         Some((from, _)) if from >= zones => trouble(Kind::Range, tails.len()),
         Some((_, to)) if to >= zones => trouble(Kind::Head, tails.len()),
+        Some((from, to)) if withdrawn[from] || withdrawn[to] => trouble(Kind::Gone, tails.len()),
         _ => Ok(()),
     }
 }
@@ -110,10 +142,11 @@ pub fn read(bytes: &[u8], tails: &mut [u16], heads: &mut [u16]) -> Answer {
     }))
 }
 
-/// Writes a network file. Value: its length.
-pub fn write(zones: usize, tails: &[u16], heads: &[u16], out: &mut [u8]) -> Answer {
+/// Writes a network file, which holds no list of withdrawn zones. Value: its
+/// length.
+pub fn write(zones: usize, tails: &[u16], heads: &[u16], gone: &[u16], out: &mut [u8]) -> Answer {
     let mut call = || {
-        check(zones, tails, heads, None)?;
+        check(zones, tails, heads, gone, None)?;
         let bytes = file::bytes(zones, tails, heads);
         room(bytes.len() <= out.len())?;
         out[..bytes.len()].copy_from_slice(&bytes);
@@ -123,12 +156,12 @@ pub fn write(zones: usize, tails: &[u16], heads: &[u16], out: &mut [u8]) -> Answ
 }
 
 /// Says whether the network is strong. Value: 1 for yes, 0 for no.
-pub fn strong(zones: usize, tails: &[u16], heads: &[u16], work: &mut [u16]) -> Answer {
+pub fn strong(zones: usize, tails: &[u16], heads: &[u16], gone: &[u16], work: &mut [u16]) -> Answer {
     let mut call = || {
-        check(zones, tails, heads, None)?;
+        check(zones, tails, heads, gone, None)?;
         let asked = work_asked(zones, tails.len());
         room(work.len() >= asked)?;
-        let yes = graph::components(zones, &graph::rows(zones, tails, heads)).names.len() == 1;
+        let yes = Remaining::new(zones, tails, heads, gone).strong();
         work[..asked].fill(0);
         Ok([yes as u64, 0, 0, 0, 0])
     };
@@ -136,12 +169,20 @@ pub fn strong(zones: usize, tails: &[u16], heads: &[u16], work: &mut [u16]) -> A
 }
 
 /// Says whether one zone reaches another. Value: 1 for yes, 0 for no.
-pub fn reach(zones: usize, tails: &[u16], heads: &[u16], from: usize, to: usize, work: &mut [u16]) -> Answer {
+pub fn reach(
+    zones: usize,
+    tails: &[u16],
+    heads: &[u16],
+    gone: &[u16],
+    from: usize,
+    to: usize,
+    work: &mut [u16],
+) -> Answer {
     let mut call = || {
-        check(zones, tails, heads, Some((from, to)))?;
+        check(zones, tails, heads, gone, Some((from, to)))?;
         let asked = work_asked(zones, tails.len());
         room(work.len() >= asked)?;
-        let yes = graph::reaches(zones, &graph::rows(zones, tails, heads), from, to);
+        let yes = Remaining::new(zones, tails, heads, gone).reaches(from, to);
         work[..asked].fill(0);
         Ok([yes as u64, 0, 0, 0, 0])
     };
@@ -153,15 +194,16 @@ pub fn skeleton(
     zones: usize,
     tails: &[u16],
     heads: &[u16],
+    gone: &[u16],
     out_tails: &mut [u16],
     out_heads: &mut [u16],
     work: &mut [u16],
 ) -> Answer {
     let mut call = || {
-        check(zones, tails, heads, None)?;
+        check(zones, tails, heads, gone, None)?;
         let asked = work_asked(zones, tails.len());
         room(out_tails.len() >= tails.len() && out_heads.len() >= tails.len() && work.len() >= asked)?;
-        let arcs = reduce::skeleton(zones, tails, heads);
+        let arcs = Remaining::new(zones, tails, heads, gone).skeleton();
         for (index, &(tail, head)) in arcs.iter().enumerate() {
             out_tails[index] = tail;
             out_heads[index] = head;
@@ -177,17 +219,18 @@ pub fn plan(
     zones: usize,
     tails: &[u16],
     heads: &[u16],
+    gone: &[u16],
     from: &mut [u16],
     to: &mut [u16],
     why: &mut [u16],
     work: &mut [u16],
 ) -> Answer {
     let mut call = || {
-        check(zones, tails, heads, None)?;
+        check(zones, tails, heads, gone, None)?;
         let asked = work_asked(zones, tails.len());
         let records = from.len().min(to.len()).min(why.len());
         room(records >= zones && work.len() >= asked)?;
-        let plan = links::plan(zones, tails, heads);
+        let plan = Remaining::new(zones, tails, heads, gone).plan();
         for (index, link) in plan.links.iter().enumerate() {
             from[index] = link.from;
             to[index] = link.to;

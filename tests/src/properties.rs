@@ -4,7 +4,8 @@
 //! of the one then holds of the other.
 
 use crate::compare::Comparer;
-use crate::model::{graph, links, reduce};
+use crate::model::links;
+use crate::model::remaining::Remaining;
 use crate::net::Net;
 use crate::words::{self, Table};
 
@@ -14,18 +15,20 @@ pub const SHAPES: [&str; 11] = [
     "ring and back", "turned with two ring", "turned with two back", "ring, chain of three and back",
 ];
 
-fn strong(net: &Net) -> bool {
-    graph::components(net.zones, &graph::rows(net.zones, &net.tails, &net.heads)).names.len() == 1
+/// The model's methods on a good network.
+pub fn of(net: &Net) -> Remaining {
+    Remaining::new(net.zones, &net.tails, &net.heads, &net.gone)
 }
 
 /// Tests one good network and gives the table of what reaches what.
 pub fn hold(to: &mut Comparer, net: &Net) -> Table {
     let table = Table::new(net);
 
-    let yes = strong(net);
+    let model = of(net);
+    let yes = model.strong();
     to.hold(yes == table.strong(), || format!("model: strong not as by the words: {net}"));
 
-    let plan = links::plan(net.zones, &net.tails, &net.heads);
+    let plan = model.plan();
     let by_words = words::plan(net, &table);
     to.hold(plan == by_words, || format!("model: plan not as by the words: {net}\n    {plan:?}\n    {by_words:?}"));
     let fewest = if yes { 0 } else { plan.sources.max(plan.sinks) + plan.alone };
@@ -34,20 +37,22 @@ pub fn hold(to: &mut Comparer, net: &Net) -> Table {
     to.hold(distinct, || format!("model: a link from a zone to itself: {net}\n    {plan:?}"));
     let tails: Vec<u16> = plan.links.iter().map(|link| link.from).collect();
     let heads: Vec<u16> = plan.links.iter().map(|link| link.to).collect();
-    to.hold(strong(&net.with(&tails, &heads)), || format!("model: not strong with its plan: {net}\n    {plan:?}"));
+    let stay = plan.links.iter().all(|link| !net.gone.contains(&link.from) && !net.gone.contains(&link.to));
+    to.hold(stay, || format!("model: a link at a withdrawn zone: {net}\n    {plan:?}"));
+    to.hold(of(&net.with(&tails, &heads)).strong(), || format!("model: not strong with its plan: {net}\n    {plan:?}"));
 
-    let arcs = reduce::skeleton(net.zones, &net.tails, &net.heads);
+    let arcs = model.skeleton();
     let by_words = words::skeleton(net, &table);
     to.hold(arcs == by_words, || {
         format!("model: skeleton not as by the words: {net}\n    {arcs:?}\n    {by_words:?}")
     });
     let (tails, heads) = arcs.iter().copied().unzip();
-    let skeleton = Net { zones: net.zones, tails, heads };
+    let skeleton = Net { tails, heads, ..net.clone() };
     to.hold(arcs.len() <= net.tails.len(), || format!("model: skeleton has more arcs: {net}\n    {skeleton}"));
     to.hold(Table::new(&skeleton) == table, || format!("model: skeleton reaches other zones: {net}\n    {skeleton}"));
-    let again = reduce::skeleton(skeleton.zones, &skeleton.tails, &skeleton.heads);
+    let again = of(&skeleton).skeleton();
     to.hold(again == arcs, || format!("model: skeleton's skeleton is another: {net}\n    {skeleton}\n    {again:?}"));
-    let other = links::plan(skeleton.zones, &skeleton.tails, &skeleton.heads);
+    let other = of(&skeleton).plan();
     to.hold(other == plan, || format!("model: skeleton's plan is another: {net}\n    {skeleton}\n    {other:?}"));
 
     count(to, yes, &plan);

@@ -19,7 +19,10 @@ pub fn run(to: &mut Comparer, cases: u64) {
 }
 
 fn case(to: &mut Comparer) {
-    let good = network(&mut to.chance);
+    let mut good = network(&mut to.chance);
+    if to.chance.one_in(2) {
+        withdraw(&mut good, &mut to.chance);
+    }
     let mut net = good.clone();
     if to.chance.one_in(2) {
         damage(&mut net, &mut to.chance);
@@ -161,6 +164,50 @@ fn across(zones: usize, split: usize, arcs: &mut [(usize, usize)]) {
     }
 }
 
+/// Withdraws zones by chance, few or many but not all, and drops their arcs.
+fn withdraw(net: &mut Net, chance: &mut Chance) {
+    let many = chance.pick(&[2, 2, 3, 8]);
+    let left = chance.below(net.zones) as u16;
+    net.gone = (0..net.zones as u16).filter(|&zone| chance.one_in(many) && zone != left).collect();
+    if chance.one_in(8) {
+        net.gone = (0..net.zones as u16).filter(|&zone| zone != left).collect();
+    }
+    let stay: Vec<bool> =
+        net.tails.iter().zip(&net.heads).map(|(a, b)| !net.gone.contains(a) && !net.gone.contains(b)).collect();
+    let mut at = stay.iter();
+    net.tails.retain(|_| *at.next().unwrap());
+    let mut at = stay.iter();
+    net.heads.retain(|_| *at.next().unwrap());
+}
+
+/// A damage to the list of withdrawn zones.
+fn damage_list(net: &mut Net, zones: usize, chance: &mut Chance) {
+    let at = chance.below(net.gone.len() + 1);
+    let zone = chance.below(zones) as u16;
+    match chance.below(9) {
+        // A zone more, which may have arcs, or stand there already, or be out of order.
+        0 => net.gone.insert(at, zone),
+        1 | 2 => {
+            net.gone.push(zone);
+            net.gone.sort();
+            net.gone.dedup();
+        }
+        // All of them.
+        3 => net.gone = (0..zones as u16).collect(),
+        // A number out of range.
+        4 => net.gone.insert(at, chance.pick(&[zones as u16, 1023, 1024, 65_535])),
+        // Out of order, or one twice.
+        5 if net.gone.len() > 1 => {
+            let last = net.gone.len() - 1;
+            net.gone.swap(at.min(last), last);
+        }
+        6 if at < net.gone.len() => net.gone.insert(at, net.gone[at]),
+        // A list far longer than the zones; a length cut down to 16 bits would be a short one.
+        7 if chance.one_in(200) => net.gone.resize(65_536 + at, zones as u16 - 1),
+        _ => net.gone.resize(zones + 1 + at, zone),
+    }
+}
+
 /// One to three damages, so that the order of the tests is seen.
 fn damage(net: &mut Net, chance: &mut Chance) {
     let zones = net.zones;
@@ -169,7 +216,7 @@ fn damage(net: &mut Net, chance: &mut Chance) {
         let at = if arcs > 0 { chance.below(arcs) } else { 0 };
         let at = if chance.one_in(4) { arcs.saturating_sub(1) } else { at };
         // Very long lists take time and come seldom.
-        let kinds = if chance.one_in(200) { 9 } else { 7 };
+        let kinds = if chance.one_in(200) { 11 } else { 9 };
         match chance.below(kinds) {
             0 | 1 => net.zones = other_zones(zones, chance),
             // Lists of different length.
@@ -191,7 +238,8 @@ fn damage(net: &mut Net, chance: &mut Chance) {
             // An arc from a zone to itself, perhaps from one that there is not.
             5 | 6 if at < net.tails.len().min(net.heads.len()) => net.heads[at] = net.tails[at],
             5 | 6 => {}
-            both => too_many(net, zones, both == 7, chance),
+            7 | 8 => damage_list(net, zones, chance),
+            both => too_many(net, zones, both == 9, chance),
         }
     }
 }

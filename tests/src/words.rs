@@ -9,24 +9,26 @@ use crate::net::Net;
 /// Which zone reaches which, a row of bits for each zone.
 #[derive(Clone, PartialEq, Eq, Hash, Debug)]
 pub struct Table {
-    zones: usize,
+    /// The zones that remain, ascending.
+    zones: Vec<usize>,
     words: usize,
     bits: Vec<u64>,
 }
 
 impl Table {
     pub fn new(net: &Net) -> Table {
-        let (zones, words) = (net.zones, net.zones.div_ceil(64));
-        let mut table = Table { zones, words, bits: vec![0; zones * words] };
-        for zone in 0..zones {
+        let words = net.zones.div_ceil(64);
+        let zones: Vec<usize> = (0..net.zones).filter(|&zone| !net.gone.contains(&(zone as u16))).collect();
+        let mut table = Table { zones: zones.clone(), words, bits: vec![0; net.zones * words] };
+        for &zone in &zones {
             table.set(zone, zone);
         }
         for (&tail, &head) in net.tails.iter().zip(&net.heads) {
             table.set(usize::from(tail), usize::from(head));
         }
         // Warshall: by way of `through`, what reaches it reaches what it does.
-        for through in 0..zones {
-            for zone in 0..zones {
+        for &through in &zones {
+            for &zone in &zones {
                 if table.reaches(zone, through) {
                     for word in 0..words {
                         table.bits[zone * words + word] |= table.bits[through * words + word];
@@ -46,21 +48,21 @@ impl Table {
     }
 
     pub fn strong(&self) -> bool {
-        (0..self.zones).all(|a| (0..self.zones).all(|b| self.reaches(a, b)))
+        self.zones.iter().all(|&a| self.zones.iter().all(|&b| self.reaches(a, b)))
     }
 
-    /// The name of each zone's component.
-    fn names(&self) -> Vec<usize> {
-        let one = |a: usize| (0..self.zones).find(|&b| self.reaches(a, b) && self.reaches(b, a)).unwrap();
-        (0..self.zones).map(one).collect()
+    /// The name of each zone's component; a withdrawn number has none.
+    fn names(&self) -> Vec<Option<usize>> {
+        let one = |a: usize| self.zones.iter().copied().find(|&b| self.reaches(a, b) && self.reaches(b, a));
+        (0..self.bits.len() / self.words).map(one).collect()
     }
 }
 
 /// The arcs between components, by name, each once.
-fn between(net: &Net, names: &[usize]) -> Vec<(usize, usize)> {
+fn between(net: &Net, names: &[Option<usize>]) -> Vec<(usize, usize)> {
     let ends = net.tails.iter().zip(&net.heads);
-    let mut arcs: Vec<(usize, usize)> =
-        ends.map(|(&a, &b)| (names[usize::from(a)], names[usize::from(b)])).filter(|(a, b)| a != b).collect();
+    let name = |zone: u16| names[usize::from(zone)].unwrap();
+    let mut arcs: Vec<(usize, usize)> = ends.map(|(&a, &b)| (name(a), name(b))).filter(|(a, b)| a != b).collect();
     arcs.sort();
     arcs.dedup();
     arcs
@@ -68,10 +70,10 @@ fn between(net: &Net, names: &[usize]) -> Vec<(usize, usize)> {
 
 pub fn skeleton(net: &Net, table: &Table) -> Vec<(u16, u16)> {
     let names = table.names();
-    let components: Vec<usize> = (0..net.zones).filter(|&zone| names[zone] == zone).collect();
+    let components: Vec<usize> = (0..net.zones).filter(|&zone| names[zone] == Some(zone)).collect();
     let mut arcs = Vec::new();
     for &name in &components {
-        let members: Vec<usize> = (0..net.zones).filter(|&zone| names[zone] == name).collect();
+        let members: Vec<usize> = (0..net.zones).filter(|&zone| names[zone] == Some(name)).collect();
         if members.len() >= 2 {
             for i in 0..members.len() {
                 arcs.push((members[i], members[(i + 1) % members.len()]));
@@ -94,7 +96,7 @@ pub fn plan(net: &Net, table: &Table) -> Plan {
     let out = |name: usize| arcs.iter().any(|arc| arc.0 == name);
     let into = |name: usize| arcs.iter().any(|arc| arc.1 == name);
     let of = |o: bool, i: bool| -> Vec<usize> {
-        (0..net.zones).filter(|&zone| names[zone] == zone && out(zone) == o && into(zone) == i).collect()
+        (0..net.zones).filter(|&zone| names[zone] == Some(zone) && out(zone) == o && into(zone) == i).collect()
     };
     let (sources, sinks, x) = (of(true, false), of(false, true), of(false, false));
     let counts = |pairs: usize, links: Vec<Link>| Plan {

@@ -10,7 +10,7 @@ use std::slice::{from_raw_parts, from_raw_parts_mut};
 use std::sync::atomic::{AtomicUsize, Ordering};
 
 /// What is wrong; fault 0 is none.
-pub const FAULTS: [&str; 41] = [
+pub const FAULTS: [&str; 52] = [
     "nothing",
     "a refusal's place is one too high",
     "a refusal keeps a value",
@@ -52,6 +52,17 @@ pub const FAULTS: [&str; 41] = [
     "two links are exchanged",
     "the last link's why is another",
     "the number of pairs is that of all sources",
+    "a withdrawn list's length is cut to 16 bits",
+    "LIST takes the same number twice",
+    "LIST is tested for order first",
+    "NONE is tested before LIST",
+    "NONE is not said",
+    "GONE is tested before SELF",
+    "GONE is said of tails only",
+    "GONE is said after the other tests of all arcs",
+    "a question about a withdrawn zone is answered",
+    "strength is over all numbers",
+    "withdrawn zones come out alone",
 ];
 
 pub static FAULT: AtomicUsize = AtomicUsize::new(0);
@@ -82,6 +93,12 @@ unsafe fn arcs<'a>(list: *const u16, length: usize) -> &'a [u16] {
     from_raw_parts(list, length)
 }
 
+/// The withdrawn numbers as a call with faults sees them.
+unsafe fn withdrawn<'a>(list: *const u16, length: usize) -> &'a [u16] {
+    let cut = fault("a withdrawn list's length is cut to 16 bits");
+    from_raw_parts(list, if cut { length & 0xffff } else { length })
+}
+
 /// Work memory as a call with faults sees it.
 unsafe fn memory<'a>(work: *mut u16, length: usize) -> &'a mut [u16] {
     let cut = fault("work memory's length is cut to 16 bits");
@@ -89,7 +106,7 @@ unsafe fn memory<'a>(work: *mut u16, length: usize) -> &'a mut [u16] {
 }
 
 /// Faults in the order of the tests: the refusal that is given too early.
-fn early(zones: usize, tails: &[u16], heads: &[u16], room: bool) -> Option<Answer> {
+fn early(zones: usize, tails: &[u16], heads: &[u16], gone: &[u16], room: bool) -> Option<Answer> {
     let zones_bad = zones == 0 || zones > model::MOST_ZONES;
     if fault("ZONES is tested before PAIR") && zones_bad {
         return Some([4, 0, 0, 0, 0, 0, 0, 0]);
@@ -97,20 +114,62 @@ fn early(zones: usize, tails: &[u16], heads: &[u16], room: bool) -> Option<Answe
     if zones_bad || tails.len() != heads.len() || tails.len() > model::MOST_ARCS {
         return None;
     }
+    if let Some(early) = early_list(zones, gone) {
+        return Some(early);
+    }
+    if model::check(zones, &[], &[], gone, None).is_err() {
+        return None;
+    }
     if fault("ROOM is tested before RANGE") && !room {
         return Some([9, 0, 0, 0, 0, 0, 0, 0]);
     }
     if fault("HEAD is tested before RANGE") {
         let place = heads.iter().position(|&head| usize::from(head) >= zones)?;
-        let before = model::check(zones, &tails[..place], &heads[..place], None);
+        let before = model::check(zones, &tails[..place], &heads[..place], gone, None);
         return before.is_ok().then_some([11, place as u64, 0, 0, 0, 0, 0, 0]);
     }
     if fault("SELF is tested before RANGE") {
         let place = tails.iter().zip(heads).position(|(a, b)| a == b)?;
-        let before = model::check(zones, &tails[..place], &heads[..place], None);
+        let before = model::check(zones, &tails[..place], &heads[..place], gone, None);
         return before.is_ok().then_some([7, place as u64, 0, 0, 0, 0, 0, 0]);
     }
+    if fault("GONE is tested before SELF") {
+        let place = tails.iter().zip(heads).position(|(a, b)| gone.contains(a) || gone.contains(b))?;
+        let before = model::check(zones, &tails[..place], &heads[..place], gone, None);
+        let zone = |zone: u16| usize::from(zone) < zones;
+        let good = before.is_ok() && zone(tails[place]) && zone(heads[place]);
+        return good.then_some([14, place as u64, 0, 0, 0, 0, 0, 0]);
+    }
+    if fault("GONE is said after the other tests of all arcs") {
+        let other = model::check(zones, tails, heads, &[], None).err()?;
+        return Some([other.kind as u64, other.place as u64, 0, 0, 0, 0, 0, 0]);
+    }
     None
+}
+
+/// Faults in the tests of the withdrawn list.
+fn early_list(zones: usize, gone: &[u16]) -> Option<Answer> {
+    let order = (1..gone.len()).find(|&index| gone[index] <= gone[index - 1]);
+    let all = (0..zones).all(|zone| gone.contains(&(zone as u16)));
+    if fault("LIST is tested for order first") {
+        return order.map(|place| [12, place as u64, 0, 0, 0, 0, 0, 0]);
+    }
+    (fault("NONE is tested before LIST") && all).then_some([13, 0, 0, 0, 0, 0, 0, 0])
+}
+
+/// The withdrawn numbers that a call with faults reckons with.
+fn reckoned(zones: usize, heads: &[u16], gone: &[u16]) -> Vec<u16> {
+    let mut list = gone.to_vec();
+    if fault("LIST takes the same number twice") {
+        list.dedup();
+    }
+    if fault("NONE is not said") && model::check(zones, &[], &[], gone, None).is_err_and(|t| t.kind as u64 == 13) {
+        list.pop();
+    }
+    if fault("GONE is said of tails only") && model::check(zones, &[], &[], gone, None).is_ok() {
+        list.retain(|zone| !heads.contains(zone));
+    }
+    list
 }
 
 /// Faults in the answer itself, and then it is handed out.
@@ -210,11 +269,14 @@ pub unsafe extern "C" fn linkplan_read(
 #[cfg_attr(feature = "exported", no_mangle)]
 pub unsafe extern "C" fn linkplan_write(
     zones: usize, tails: *const u16, tails_len: usize, heads: *const u16, heads_len: usize,
+    gone: *const u16, gone_len: usize,
     file: *mut u8, file_len: usize, out: *mut u64,
 ) {
     let (zones, tails, heads) = (cut(zones), arcs(tails, tails_len), arcs(heads, heads_len));
-    let answer = early(zones, tails, heads, file_len > 0)
-        .unwrap_or_else(|| model::write(zones, tails, heads, from_raw_parts_mut(file, file_len)));
+    let lent = withdrawn(gone, gone_len);
+    let gone = &reckoned(zones, heads, lent);
+    let answer = early(zones, tails, heads, lent, file_len > 0)
+        .unwrap_or_else(|| model::write(zones, tails, heads, gone, from_raw_parts_mut(file, file_len)));
     spoil(file, file_len, answer[2] as usize, 7);
     give(answer, out);
 }
@@ -222,12 +284,15 @@ pub unsafe extern "C" fn linkplan_write(
 #[cfg_attr(feature = "exported", no_mangle)]
 pub unsafe extern "C" fn linkplan_strong(
     zones: usize, tails: *const u16, tails_len: usize, heads: *const u16, heads_len: usize,
+    gone: *const u16, gone_len: usize,
     work: *mut u16, work_len: usize, out: *mut u64,
 ) {
     let (zones, tails, heads) = (cut(zones), arcs(tails, tails_len), arcs(heads, heads_len));
-    let mut answer = early(zones, tails, heads, work_len > 0)
-        .unwrap_or_else(|| model::strong(zones, tails, heads, memory(work, work_len)));
-    if fault("strong is always no") {
+    let lent = withdrawn(gone, gone_len);
+    let gone = &reckoned(zones, heads, lent);
+    let mut answer = early(zones, tails, heads, lent, work_len > 0)
+        .unwrap_or_else(|| model::strong(zones, tails, heads, gone, memory(work, work_len)));
+    if fault("strong is always no") || fault("strength is over all numbers") && !gone.is_empty() {
         answer[2] = 0;
     }
     spoil_work(&answer, zones, tails.len(), work, work_len);
@@ -237,17 +302,24 @@ pub unsafe extern "C" fn linkplan_strong(
 #[cfg_attr(feature = "exported", no_mangle)]
 pub unsafe extern "C" fn linkplan_reach(
     zones: usize, tails: *const u16, tails_len: usize, heads: *const u16, heads_len: usize,
+    gone: *const u16, gone_len: usize,
     mut from: usize, mut to: usize, work: *mut u16, work_len: usize, out: *mut u64,
 ) {
     let (zones, tails, heads) = (cut(zones), arcs(tails, tails_len), arcs(heads, heads_len));
+    let lent = withdrawn(gone, gone_len);
+    let gone = &reckoned(zones, heads, lent);
     if fault("a zone of a question is cut to 16 bits") {
         (from, to) = (from & 0xffff, to & 0xffff);
     }
     if fault("reach is asked the other way round") {
         (from, to) = (to, from);
     }
-    let mut answer = early(zones, tails, heads, work_len > 0)
-        .unwrap_or_else(|| model::reach(zones, tails, heads, from, to, memory(work, work_len)));
+    let mut answer = early(zones, tails, heads, lent, work_len > 0)
+        .unwrap_or_else(|| model::reach(zones, tails, heads, gone, from, to, memory(work, work_len)));
+    if fault("a question about a withdrawn zone is answered") && answer[0] == 14 && answer[1] == tails.len() as u64 {
+        answer = [0, 0, (from == to) as u64, 0, 0, 0, 0, 0];
+        memory(work, work_len)[..model::work_asked(zones, tails.len())].fill(0);
+    }
     let asked = answer[0] == 6 && answer[1] == tails.len() as u64;
     if fault("a question's second zone is tested first") && asked && to >= zones {
         answer[0] = 11;
@@ -262,14 +334,17 @@ pub unsafe extern "C" fn linkplan_reach(
 #[cfg_attr(feature = "exported", no_mangle)]
 pub unsafe extern "C" fn linkplan_skeleton(
     zones: usize, tails: *const u16, tails_len: usize, heads: *const u16, heads_len: usize,
+    gone: *const u16, gone_len: usize,
     out_tails: *mut u16, out_tails_len: usize, out_heads: *mut u16, out_heads_len: usize,
     work: *mut u16, work_len: usize, out: *mut u64,
 ) {
     let (zones, tails, heads) = (cut(zones), arcs(tails, tails_len), arcs(heads, heads_len));
+    let lent = withdrawn(gone, gone_len);
+    let gone = &reckoned(zones, heads, lent);
     let one = from_raw_parts_mut(out_tails, out_tails_len);
     let two = from_raw_parts_mut(out_heads, out_heads_len);
-    let mut answer = early(zones, tails, heads, work_len > 0)
-        .unwrap_or_else(|| model::skeleton(zones, tails, heads, one, two, memory(work, work_len)));
+    let mut answer = early(zones, tails, heads, lent, work_len > 0)
+        .unwrap_or_else(|| model::skeleton(zones, tails, heads, gone, one, two, memory(work, work_len)));
     let count = answer[2] as usize;
     if answer[0] == 0 && fault("the skeleton copies its input") {
         one[..tails.len()].copy_from_slice(tails);
@@ -308,18 +383,24 @@ fn drop_beside(zones: usize, tails: &[u16], heads: &[u16], one: &mut [u16], two:
 #[cfg_attr(feature = "exported", no_mangle)]
 pub unsafe extern "C" fn linkplan_plan(
     zones: usize, tails: *const u16, tails_len: usize, heads: *const u16, heads_len: usize,
+    gone: *const u16, gone_len: usize,
     from: *mut u16, from_len: usize, to: *mut u16, to_len: usize, why: *mut u16, why_len: usize,
     work: *mut u16, work_len: usize, out: *mut u64,
 ) {
     let (zones, tails, heads) = (cut(zones), arcs(tails, tails_len), arcs(heads, heads_len));
+    let lent = withdrawn(gone, gone_len);
+    let gone = &reckoned(zones, heads, lent);
     let one = from_raw_parts_mut(from, from_len);
     let two = from_raw_parts_mut(to, to_len);
     let three = from_raw_parts_mut(why, why_len);
-    let mut answer = early(zones, tails, heads, work_len > 0)
-        .unwrap_or_else(|| model::plan(zones, tails, heads, one, two, three, memory(work, work_len)));
+    let mut answer = early(zones, tails, heads, lent, work_len > 0)
+        .unwrap_or_else(|| model::plan(zones, tails, heads, gone, one, two, three, memory(work, work_len)));
     let count = answer[6] as usize;
     if fault("the plan has a link for a strong network") && answer[0] == 0 && count == 0 {
         (one[0], two[0], three[0], answer[6]) = (0, 0, 1, 1);
+    }
+    if fault("withdrawn zones come out alone") && answer[0] == 0 {
+        answer[4] += gone.len() as u64;
     }
     if fault("two links are exchanged") && count > 1 {
         one.swap(0, 1);

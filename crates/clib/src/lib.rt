@@ -37,14 +37,15 @@ pub extern "C" fn linkplan_write(
     zones: usize,
     tails: &[u16],
     heads: &[u16],
+    gone: &[u16],
     file: &mut [u8],
     answer: &mut [u64; 8],
 )
-    ensures { λ _. ⌜ C-promise (Write-promise zones (now (tails .entry)) (now (heads .entry)) (now (file .entry))
-        (now (file .exit)))
+    ensures { λ _. ⌜ C-promise (Write-promise zones (now (tails .entry)) (now (heads .entry)) (now (gone .entry))
+        (now (file .entry)) (now (file .exit)))
         (now (answer .exit)) ⌝ }
 {
-    let a = write(zones, tails, heads, file);
+    let a = write(zones, tails, heads, gone, file);
     put_write(answer, a);
 }
 
@@ -54,14 +55,15 @@ pub extern "C" fn linkplan_strong(
     zones: usize,
     tails: &[u16],
     heads: &[u16],
+    gone: &[u16],
     work: &mut [u16],
     answer: &mut [u64; 8],
 )
-    ensures { λ _. ⌜ C-promise (Strong-promise zones (now (tails .entry)) (now (heads .entry)) (now (work .entry))
-        (now (work .exit)))
+    ensures { λ _. ⌜ C-promise (Strong-promise zones (now (tails .entry)) (now (heads .entry)) (now (gone .entry))
+        (now (work .entry)) (now (work .exit)))
         (now (answer .exit)) ⌝ }
 {
-    let a = strong(zones, tails, heads, work);
+    let a = strong(zones, tails, heads, gone, work);
     put_strong(answer, a);
 }
 
@@ -71,16 +73,17 @@ pub extern "C" fn linkplan_reach(
     zones: usize,
     tails: &[u16],
     heads: &[u16],
+    gone: &[u16],
     from: usize,
     to: usize,
     work: &mut [u16],
     answer: &mut [u64; 8],
 )
-    ensures { λ _. ⌜ C-promise (Reach-promise zones (now (tails .entry)) (now (heads .entry)) from to
+    ensures { λ _. ⌜ C-promise (Reach-promise zones (now (tails .entry)) (now (heads .entry)) (now (gone .entry)) from to
         (now (work .entry)) (now (work .exit)))
         (now (answer .exit)) ⌝ }
 {
-    let a = reach(zones, tails, heads, from, to, work);
+    let a = reach(zones, tails, heads, gone, from, to, work);
     put_reach(answer, a);
 }
 
@@ -90,17 +93,18 @@ pub extern "C" fn linkplan_skeleton(
     zones: usize,
     tails: &[u16],
     heads: &[u16],
+    gone: &[u16],
     out_tails: &mut [u16],
     out_heads: &mut [u16],
     work: &mut [u16],
     answer: &mut [u64; 8],
 )
-    ensures { λ _. ⌜ C-promise (Skeleton-promise zones (now (tails .entry)) (now (heads .entry))
+    ensures { λ _. ⌜ C-promise (Skeleton-promise zones (now (tails .entry)) (now (heads .entry)) (now (gone .entry))
         (now («out_tails» .entry)) (now («out_heads» .entry)) (now (work .entry))
         (now («out_tails» .exit)) (now («out_heads» .exit)) (now (work .exit)))
         (now (answer .exit)) ⌝ }
 {
-    let a = skeleton(zones, tails, heads, out_tails, out_heads, work);
+    let a = skeleton(zones, tails, heads, gone, out_tails, out_heads, work);
     put_skeleton(answer, a);
 }
 
@@ -110,17 +114,18 @@ pub extern "C" fn linkplan_plan(
     zones: usize,
     tails: &[u16],
     heads: &[u16],
+    gone: &[u16],
     from: &mut [u16],
     to: &mut [u16],
     why: &mut [u16],
     work: &mut [u16],
     answer: &mut [u64; 8],
 )
-    ensures { λ _. ⌜ C-promise (Plan-promise zones (now (tails .entry)) (now (heads .entry))
+    ensures { λ _. ⌜ C-promise (Plan-promise zones (now (tails .entry)) (now (heads .entry)) (now (gone .entry))
         (now (from .entry)) (now (to .entry)) (now (why .entry)) (now (work .entry))
         (now (from .exit)) (now (to .exit)) (now (why .exit)) (now (work .exit)))
         (now (answer .exit)) ⌝ }
 {
-    let a = plan(zones, tails, heads, from, to, why, work);
+    let a = plan(zones, tails, heads, gone, from, to, why, work);
     put_plan(answer, a);
 }
