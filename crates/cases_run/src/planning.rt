@@ -19,13 +19,22 @@ pub struct Asked {
 }
 
 // The plan through three lists of ten elements, at least two more than there are zones.
-pub fn by_lists(zones: usize, tails: &[u16], heads: &[u16]) -> Outcome {
+pub fn by_lists(zones: usize, tails: &[u16], heads: &[u16], gone: &[u16]) -> Outcome {
     let mut from = [lent::UNSET; 10];
     let mut to = [lent::UNSET; 10];
     let mut why = [lent::UNSET; 10];
     let mut work = [lent::SEVEN; 170];
-    let answer = plan::plan(zones, tails, heads, &mut from, &mut to, &mut why, &mut work);
-    let kept = lent::cleared(&work, zones, tails.len());
+    let answer = plan::plan(
+        zones,
+        tails,
+        heads,
+        gone,
+        &mut from,
+        &mut to,
+        &mut why,
+        &mut work,
+    );
+    let kept = lent::kept(&work, zones, tails.len());
     let c = Columns {
         from: from,
         to: to,
@@ -46,12 +55,18 @@ pub fn unset() -> [Link; 10]
 }
 
 // Asks PLAN over ten records, at least two more than there are zones.
-fn ask_records(zones: usize, tails: &[u16], heads: &[u16], work: &mut [u16]) -> Asked
-    ensures { λ r. ⌜ Records-promise zones (now (tails .entry)) (now (heads .entry)) unset-links
+fn ask_records(
+    zones: usize,
+    tails: &[u16],
+    heads: &[u16],
+    gone: &[u16],
+    work: &mut [u16],
+) -> Asked
+    ensures { λ r. ⌜ Records-promise zones (now (tails .entry)) (now (heads .entry)) (now (gone .entry)) unset-links
         (now (work .entry)) (r .links) (now (work .exit)) (plan-told (r .answer)) ⌝ }
 {
     let mut links = unset();
-    let answer = plan_records(zones, tails, heads, &mut links, work);
+    let answer = plan_records(zones, tails, heads, gone, &mut links, work);
     Asked {
         answer: answer,
         links: links,
@@ -89,10 +104,10 @@ fn columns(links: [Link; 10]) -> Columns {
 }
 
 // The plan through ten records.
-pub fn by_records(zones: usize, tails: &[u16], heads: &[u16]) -> Outcome {
+pub fn by_records(zones: usize, tails: &[u16], heads: &[u16], gone: &[u16]) -> Outcome {
     let mut work = [lent::SEVEN; 170];
-    let asked = ask_records(zones, tails, heads, &mut work);
-    let kept = lent::cleared(&work, zones, tails.len());
+    let asked = ask_records(zones, tails, heads, gone, &mut work);
+    let kept = lent::kept(&work, zones, tails.len());
     let answer = asked.answer;
     let links = asked.links;
     outcome::planned(answer, columns(links), why_number(Why::Back), kept)

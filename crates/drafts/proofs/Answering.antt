@@ -19,12 +19,13 @@ use Rattle.rules.specs.Lists.{cleared}
 use Rattle.rules.specs.Answers.{plan-told}
 use Rattle.rules.specs.Components.{sources, sinks, alone}
 use Rattle.rules.specs.Plan.{plan}
-use Rattle.rules.specs.Calls.{network-tests, room-test, asked-work, handed, records-trouble}
+use Rattle.rules.specs.Calls.{network-tests, room-test, asked-work, handed-with, records-trouble}
 use Rattle.rules.specs.Promises.{Records-promise}
 use Rattle.theory.proofs.Files.Troubles.{passes, both-pass}
-use Rattle.theory.proofs.Files.Accepting.{fine, fine-few}
+use Rattle.theory.proofs.Files.Accepting.{fine-few}
 use Rattle.workmap.specs.Map.{links-at, map-of}
-use Rattle.arranged.specs.Ready.{Readyable}
+use Rattle.withdrawn.specs.Withdrawn.{Ready-with}
+use Rattle.withdrawn.proofs.Readying.{tests-ready}
 use Rattle.rules.specs.Network.{Network}
 use Rattle.workmap.specs.declared.Map.{Map}
 use Rattle.theory.proofs.Files.AnswerLaws.{plan-told-once}
@@ -37,10 +38,10 @@ use Rattle.columns.specs.Columns.{filled}
 use Rattle.columns.proofs.FillLaws.{filled-is}
 use Rattle.drafts.specs.Drafts.{Draft-readable, need-of, Finishable, finished, Drafted}
 
-module _ (n : ℕ) (ts hs : List ℕ) (room : ℕ) (w : List ℕ) where
+module _ (n : ℕ) (ts hs gone : List ℕ) (room : ℕ) (w : List ℕ) where
   -- the draft refuses
-  pub drafted-refused : (t : Trouble) → records-trouble n ts hs room w ≡ some t →
-      Drafted n ts hs room w (PlanAnswer.Refused t) w
+  pub drafted-refused : (t : Trouble) → records-trouble n ts hs gone room w ≡ some t →
+      Drafted n ts hs gone room w (PlanAnswer.Refused t) w
   unfolding filled
   drafted-refused t e =
       record {
@@ -48,46 +49,46 @@ module _ (n : ℕ) (ts hs : List ℕ) (room : ℕ) (w : List ℕ) where
         readable = λ i h. absurd (not-suc-le-zero h);
         finishable = tt;
         keeps = λ ls f.
-            let g = ap (λ (k : ℕ). records-trouble n ts hs k w) f ∙ e in
+            let g = ap (λ (k : ℕ). records-trouble n ts hs gone k w) f ∙ e in
             record { told-is = rw g refl; links-left = rw g refl; work-left = rw g refl };
       }
 
   -- without a trouble the input passes the tests, and there are as many records as asked
-  pub tests-ready : records-trouble n ts hs room w ≡ none →
-      Readyable (map-of n (length ts)) ts hs w × (n ≤ room)
+  pub draft-ready : records-trouble n ts hs gone room w ≡ none →
+      Ready-with (map-of n (length ts)) ts hs gone w × (n ≤ room)
   unfolding records-trouble
-  tests-ready e =
+  draft-ready e =
       let asked = asked-work n (length ts) in
-      let p = both-pass (network-tests n ts hs) (room-test asked (length w) ∷ room-test n room ∷ []) e in
+      let p = both-pass (network-tests n ts hs gone) (room-test asked (length w) ∷ room-test n room ∷ []) e in
       let a = passes (ltb (length w) asked) _ _ (p .1) in
       let b = passes (ltb room n) _ _ (a .1) in (
-        record { fine = fine n ts hs (p .0); map = refl; room = ltb-false (length w) asked (a .0) },
+        tests-ready n ts hs gone w (p .0) (a .0),
         ltb-false room n (b .0),
       )
 
   -- the draft leaves the plan
   pub drafted-done : (m : Map) (w' : List ℕ) (l : Layout) (r : PlanAnswer) → m ≡ map-of n (length ts) →
-      records-trouble n ts hs room w ≡ none → Laid-out w w' m ts hs l → ((N : Network) → Figures N l → Carried N r) →
-      Drafted n ts hs room w r w'
+      records-trouble n ts hs gone room w ≡ none → Laid-out w w' m (handed-with (m .zones) ts hs gone) l → ((N : Network) → Figures N l → Carried N r) →
+      Drafted n ts hs gone room w r w'
   drafted-done m w' l r made e D C =
-      let L : Laid-out w w' (map-of n (length ts)) ts hs l = rw made at D in
-      let R = tests-ready e in
-      let N = handed n ts hs in
+      let L : Laid-out w w' (map-of n (length ts)) (handed-with n ts hs gone) l = rw made at D in
+      let R = draft-ready e in
+      let N = handed-with n ts hs gone in
       let need = L .figures .need-is in
-      rw (plan-told-once r (PlanAnswer.Done _ _ _ _ _) (C (handed n ts hs) (L .figures)))
+      rw (plan-told-once r (PlanAnswer.Done _ _ _ _ _) (C N (L .figures)))
       (record {
         few = omega (arith, need, L .few, R .1);
         readable = λ i h. (
-          R .0 .fine .accepted .zones-most,
+          R .0 .ready .fine .accepted .zones-most,
           record {
-            start-in = omega (arith, h, need, L .few, L .long, R .0 .room);
-            end-in = omega (arith, h, need, L .few, L .long, R .0 .room);
-            why-in = omega (arith, h, need, L .few, L .long, R .0 .room);
+            start-in = omega (arith, h, need, L .few, L .long, R .0 .ready .room);
+            end-in = omega (arith, h, need, L .few, L .long, R .0 .ready .room);
+            why-in = omega (arith, h, need, L .few, L .long, R .0 .ready .room);
           },
         );
-        finishable = (R .0 .fine .accepted .zones-most, (fine-few (R .0 .fine), omega (arith, L .long, R .0 .room)));
+        finishable = (R .0 .ready .fine .accepted .zones-most, (fine-few (R .0 .ready .fine), omega (arith, L .long, R .0 .ready .room)));
         keeps = λ ls f.
-            let g = ap (λ (k : ℕ). records-trouble n ts hs k w) f ∙ e in
+            let g = ap (λ (k : ℕ). records-trouble n ts hs gone k w) f ∙ e in
             record {
               told-is = rw g refl;
               links-left =
@@ -116,15 +117,15 @@ pub finish-done : (a : PlanAnswer) {s t q p k : ℕ} → a ≡ PlanAnswer.Done s
 finish-done a e n m w = sym (ap (λ (b : PlanAnswer). finished b n m w) e)
 
 -- what filling asks after the draft
-pub fill-asks : {n room : ℕ} {ts hs w w' : List ℕ} {r : PlanAnswer} (k : ℕ) → Drafted n ts hs room w r w' →
+pub fill-asks : {n room : ℕ} {ts hs gone w w' : List ℕ} {r : PlanAnswer} (k : ℕ) → Drafted n ts hs gone room w r w' →
     k ≡ need-of r → (k ≤ room) × Draft-readable w' n k
 fill-asks {n} {room} {w' = w'} k p e =
     subst (λ (m : ℕ). (m ≤ room) × Draft-readable w' n m) (sym e) (p .few, p .readable)
 
 -- filling from what the draft left, and finishing, keeps the promise
-pub drafted-promise : {n k : ℕ} {ts hs w us vs : List ℕ} {xs ls : List Link} {r r₂ : PlanAnswer} →
-    Drafted n ts hs (length xs) w r us → k ≡ need-of r → ls ≡ filled us (links-at n) xs k →
-    (r₂ ≡ r) × (vs ≡ finished r n (length ts) us) → Records-promise n ts hs xs w ls vs (plan-told r₂)
+pub drafted-promise : {n k : ℕ} {ts hs gone w us vs : List ℕ} {xs ls : List Link} {r r₂ : PlanAnswer} →
+    Drafted n ts hs gone (length xs) w r us → k ≡ need-of r → ls ≡ filled us (links-at n) xs k →
+    (r₂ ≡ r) × (vs ≡ finished r n (length ts) us) → Records-promise n ts hs gone xs w ls vs (plan-told r₂)
 drafted-promise {n} {k} {us = us} {xs = xs} p e₁ e₂ e₃ =
     let q = p .keeps xs refl in
     record {

@@ -43,13 +43,13 @@ rooms-three n a b c =
 
 -- the tests of PLAN over three lists are those over records, of which there are as many as the shortest list has
 -- elements
-pub rooms-tested : (n : ℕ) (ts hs from to why w : List ℕ) (room : ℕ) →
+pub rooms-tested : (n : ℕ) (ts hs gone from to why w : List ℕ) (room : ℕ) →
     room ≡ min (length from) (min (length to) (length why)) →
-    plan-trouble n ts hs from to why w ≡ records-trouble n ts hs room w
+    plan-trouble n ts hs gone from to why w ≡ records-trouble n ts hs gone room w
 unfolding plan-trouble records-trouble
-rooms-tested n ts hs from to why w room e =
+rooms-tested n ts hs gone from to why w room e =
     let asked = asked-work n (length ts) in
-    let before = network-tests n ts hs in
+    let before = network-tests n ts hs gone in
     let lists = room-test n (length from) ∷ room-test n (length to) ∷ room-test n (length why) ∷ [] in
     first-trouble-append before (room-test asked (length w) ∷ lists)
     ∙ ap

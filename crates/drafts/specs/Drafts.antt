@@ -38,9 +38,10 @@ finished (PlanAnswer.Refused t) n m w = w
 
 -- what a draft leaves in w' where so many records are lent: filling any of that number from it, and finishing, keeps
 -- the promise
-pub record Drafted (n : ℕ) (ts hs : List ℕ) (room : ℕ) (w : List ℕ) (r : PlanAnswer) (w' : List ℕ) : Type 0 where
+pub record Drafted (n : ℕ) (ts hs gone : List ℕ) (room : ℕ) (w : List ℕ) (r : PlanAnswer) (w' : List ℕ) : Type 0 where
   pub few : need-of r ≤ room
   pub readable : Draft-readable w' n (need-of r)
   pub finishable : Finishable r n (length ts) w'
   pub keeps : (ls : List Link) → length ls ≡ room →
-      Records-promise n ts hs ls w (filled w' (links-at n) ls (need-of r)) (finished r n (length ts) w') (plan-told r)
+      Records-promise n ts hs gone ls w (filled w' (links-at n) ls (need-of r)) (finished r n (length ts) w')
+      (plan-told r)

@@ -17,18 +17,19 @@ pub fn draft(
     zones: usize,
     tails: &[u16],
     heads: &[u16],
+    gone: &[u16],
     room: usize,
     work: &mut [u16],
 ) -> PlanAnswer
-    ensures { λ r. ⌜ Drafted zones (now (tails .entry)) (now (heads .entry)) room (now (work .entry))
-        r (now (work .exit)) ⌝ }
+    ensures { λ r. ⌜ Drafted zones (now (tails .entry)) (now (heads .entry)) (now (gone .entry)) room
+        (now (work .entry)) r (now (work .exit)) ⌝ }
 {
-    let t = admission::records(zones, tails, heads, room, work);
+    let t = admission::records(zones, tails, heads, gone, room, work);
     if let Tested::Refused(trouble) = t {
         return PlanAnswer::Refused(trouble);
     }
     let m = map_of(zones, tails.len());
-    answer_of(lay(m, tails, heads, work))
+    answer_of(lay(m, tails, heads, gone, work))
 }
 
 // How many links the answer carries: none where it refuses.

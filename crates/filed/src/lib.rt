@@ -22,9 +22,9 @@ fn numbers(file: [u8; 12], n: usize) -> [u16; 10] {
 }
 
 // Writes the file of a skeleton; `kept` is whether what was lent for the skeleton is as it has to be.
-fn written(zones: usize, tails: &[u16], heads: &[u16], kept: bool) -> Outcome {
+fn written(zones: usize, tails: &[u16], heads: &[u16], gone: &[u16], kept: bool) -> Outcome {
     let mut file = [7u8; 12];
-    match netfile::write(zones, tails, heads, &mut file) {
+    match netfile::write(zones, tails, heads, gone, &mut file) {
         WriteAnswer::Done { length } => Outcome {
             came: 1,
             told: [outcome::narrow(tails.len()), 0, 0, 0, 0],
@@ -36,18 +36,18 @@ fn written(zones: usize, tails: &[u16], heads: &[u16], kept: bool) -> Outcome {
     }
 }
 
-// The file of a network's skeleton.
-pub fn skeleton_of(zones: usize, tails: &[u16], heads: &[u16]) -> Outcome {
+// The file of a network's skeleton, which keeps the network's withdrawn zones.
+pub fn skeleton_of(zones: usize, tails: &[u16], heads: &[u16], gone: &[u16]) -> Outcome {
     let mut from = [lent::UNSET; 10];
     let mut to = [lent::UNSET; 10];
     let mut work = [lent::SEVEN; 170];
-    match skeleton::skeleton(zones, tails, heads, &mut from, &mut to, &mut work) {
+    match skeleton::skeleton(zones, tails, heads, gone, &mut from, &mut to, &mut work) {
         SkeletonAnswer::Done { arcs } => {
             let kept = lent::cleared(&work, zones, tails.len());
             let rest = lent::holds(&from, arcs, 10, lent::UNSET)
                 && lent::holds(&to, arcs, 10, lent::UNSET);
             let n = least(arcs, 10);
-            written(zones, &from[0..n], &to[0..n], kept && rest)
+            written(zones, &from[0..n], &to[0..n], gone, kept && rest)
         }
         SkeletonAnswer::Refused(t) => outcome::refused(t, false),
     }

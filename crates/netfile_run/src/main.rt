@@ -8,7 +8,7 @@ mod reads;
 mod writes;
 
 // A row, by its first number: a file that is read, a network that is written, or a part of the largest one.
-fn run(given: &[u16; 17]) {
+fn run(given: &[u16; 20]) {
     match runtable::at(given, 1) {
         0 => reads::run(given),
         1 => writes::run(given),
@@ -21,7 +21,7 @@ fn row(text: &[u8], from: usize) -> usize
     requires { ⌜ from < length (now text) ⌝ }
     ensures { λ r. ⌜ from < r ⌝ }
 {
-    let mut given = [0; 17];
+    let mut given = [0; 20];
     let next = runtable::row(text, from, &mut given);
     run(&given);
     next
@@ -114,7 +114,12 @@ fn write_rows() {
           write self before room: 1 3 0 2 2 0 1 0 0 0 1 1;\
           write room exact: 1 3 6 2 2 0 1 0 0 0 1 2;\
           write one byte short: 1 3 5 2 2 0 1 0 0 0 1 2;\
-          write no room: 1 1 0 0 0;",
+          write no room: 1 1 0 0 0;\
+          write with a gone zone: 1 4 12 2 2 0 2 0 0 0 2 3 0 0 0 1 1;\
+          write list not ascending: 1 4 12 2 2 0 2 0 0 0 2 3 0 0 0 2 1 1;\
+          write none left: 1 3 12 0 0 0 0 0 0 0 0 0 0 0 0 3 0 1 2;\
+          write gone head: 1 4 12 2 2 0 2 0 0 0 2 3 0 0 0 1 3;\
+          write gone before room: 1 4 0 2 2 0 2 0 0 0 2 3 0 0 0 1 3;",
     );
 }
 

@@ -15,8 +15,8 @@ fn show(answer: WriteAnswer) {
 }
 
 // Writes a network into a list of bytes, and prints the line after its label.
-fn line(zones: usize, tails: &[u16], heads: &[u16], file: &mut [u8]) {
-    show(netfile::write(zones, tails, heads, file));
+fn line(zones: usize, tails: &[u16], heads: &[u16], gone: &[u16], file: &mut [u8]) {
+    show(netfile::write(zones, tails, heads, gone, file));
     printing::bytes(file);
     printing::line_end();
 }
@@ -29,6 +29,7 @@ pub fn run(given: &[u16]) {
         at(given, 2),
         part(given, 6, at(given, 4)),
         part(given, 11, at(given, 5)),
+        part(given, 17, at(given, 16)),
         &mut file[0..room],
     );
 }
@@ -72,7 +73,7 @@ fn large_line(given: &[u16], file: &mut [u8]) {
     let tails = ramp(128);
     let heads = ramp(129);
     let n = least(at(given, 4), 4097);
-    let answer = netfile::write(at(given, 2), &tails[0..n], &heads[0..n], file);
+    let answer = netfile::write(at(given, 2), &tails[0..n], &heads[0..n], &[], file);
     if at(given, 1) == 2 {
         show(answer);
     } else {

@@ -10,16 +10,22 @@ use strength::joined;
 use workmap::map_of;
 
 // STRONG: whether every zone reaches every zone.
-pub fn strong(zones: usize, tails: &[u16], heads: &[u16], work: &mut [u16]) -> StrongAnswer
-    ensures { λ r. ⌜ Strong-promise zones (now (tails .entry)) (now (heads .entry)) (now (work .entry))
-        (now (work .exit)) (strong-told r) ⌝ }
+pub fn strong(
+    zones: usize,
+    tails: &[u16],
+    heads: &[u16],
+    gone: &[u16],
+    work: &mut [u16],
+) -> StrongAnswer
+    ensures { λ r. ⌜ Strong-promise zones (now (tails .entry)) (now (heads .entry)) (now (gone .entry))
+        (now (work .entry)) (now (work .exit)) (strong-told r) ⌝ }
 {
-    let t = admission::strong(zones, tails, heads, work);
+    let t = admission::strong(zones, tails, heads, gone, work);
     if let Tested::Refused(trouble) = t {
         return StrongAnswer::Refused(trouble);
     }
     let m = map_of(zones, tails.len());
-    let yes = joined(m, tails, heads, work);
+    let yes = joined(m, tails, heads, gone, work);
     StrongAnswer::Done { yes: yes }
 }
 
@@ -28,14 +34,15 @@ pub fn reach(
     zones: usize,
     tails: &[u16],
     heads: &[u16],
+    gone: &[u16],
     from: usize,
     to: usize,
     work: &mut [u16],
 ) -> ReachAnswer
-    ensures { λ r. ⌜ Reach-promise zones (now (tails .entry)) (now (heads .entry)) from to (now (work .entry))
-        (now (work .exit)) (reach-told r) ⌝ }
+    ensures { λ r. ⌜ Reach-promise zones (now (tails .entry)) (now (heads .entry)) (now (gone .entry)) from to
+        (now (work .entry)) (now (work .exit)) (reach-told r) ⌝ }
 {
-    let t = admission::reach(zones, tails, heads, from, to, work);
+    let t = admission::reach(zones, tails, heads, gone, from, to, work);
     if let Tested::Refused(trouble) = t {
         return ReachAnswer::Refused(trouble);
     }

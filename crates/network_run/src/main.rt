@@ -41,11 +41,16 @@ fn show_rest(work: &[u16; 28673]) {
     printing::line_end();
 }
 
+// The withdrawn numbers of a row.
+fn withdrawn<'a>(given: &'a [u16]) -> &'a [u16] {
+    part(given, 15, at(given, 14))
+}
+
 // Asks STRONG, and prints the line after its label.
 fn ask_strong(given: &[u16], tails: &[u16], heads: &[u16]) {
     let mut work = [7; 28673];
     let lent = front(&mut work, at(given, 5));
-    show_strong(strong(at(given, 4), tails, heads, lent));
+    show_strong(strong(at(given, 4), tails, heads, withdrawn(given), lent));
     show_rest(&work);
 }
 
@@ -53,7 +58,15 @@ fn ask_strong(given: &[u16], tails: &[u16], heads: &[u16]) {
 fn ask_reach(given: &[u16], tails: &[u16], heads: &[u16]) {
     let mut work = [7; 28673];
     let lent = front(&mut work, at(given, 5));
-    show_reach(reach(at(given, 4), tails, heads, at(given, 2), at(given, 3), lent));
+    show_reach(reach(
+        at(given, 4),
+        tails,
+        heads,
+        withdrawn(given),
+        at(given, 2),
+        at(given, 3),
+        lent,
+    ));
     show_rest(&work);
 }
 
@@ -85,7 +98,7 @@ fn largest(given: &[u16]) {
 }
 
 // Asks about a row's network.
-fn run(given: &[u16; 14]) {
+fn run(given: &[u16; 18]) {
     match at(given, 6) {
         4096 => largest(given),
         4097 => ask(given, &[0; 4097], &[1; 4097]),
@@ -98,7 +111,7 @@ fn row(text: &[u8], from: usize) -> usize
     requires { ⌜ from < length (now text) ⌝ }
     ensures { λ r. ⌜ from < r ⌝ }
 {
-    let mut given = [0; 14];
+    let mut given = [0; 18];
     let next = runtable::row(text, from, &mut given);
     run(&given);
     next
@@ -116,7 +129,7 @@ fn rows(text: &[u8]) {
 // networks. A row has 0 for STRONG and 1 for REACH, from where and to where; the zones and the length of the work
 // memory; how many tails and heads there are, and those, three places for each. 4,097 arcs are all from 0 to 1; 4,096
 // go from each zone to the one that is as many further on as the next number says: one ring where that is 1, two where
-// it is 2.
+// it is 2. Last come how many numbers are withdrawn, and those, three places.
 fn main() {
     rows(
         b"pair: 0 0 0 3 57 3 2 0 1 2 1 2;\
@@ -140,6 +153,24 @@ fn main() {
           network and question: 1 3 0 3 54 2 2 0 3 0 1 2;\
           from and to: 1 9 9 3 54 2 2 0 1 0 1 2;\
           question and room: 1 0 3 3 0 2 2 0 1 0 1 2;\
+          list out of range: 0 0 0 3 57 1 1 0 0 0 2 0 0 2 1 3;\
+          list not ascending: 0 0 0 3 57 1 1 0 0 0 2 0 0 2 1 0;\
+          list with a number twice: 0 0 0 3 57 1 1 0 0 0 2 0 0 2 1 1;\
+          arcs and list: 0 0 0 3 57 4097 4097 0 0 0 0 0 0 1 3;\
+          range and order of a list: 0 0 0 3 57 0 0 0 0 0 0 0 0 2 3 1;\
+          none left: 0 0 0 3 57 0 0 0 0 0 0 0 0 3 0 1 2;\
+          list and none left: 0 0 0 2 57 0 0 0 0 0 0 0 0 3 0 1 1;\
+          none left, and tail out of range: 0 0 0 2 57 1 1 2 0 0 0 0 0 2 0 1;\
+          gone tail: 0 0 0 3 57 2 2 0 1 0 2 0 0 1 1;\
+          gone head: 0 0 0 3 57 2 2 0 2 0 2 1 0 1 1;\
+          self arc of a gone zone: 0 0 0 3 57 2 2 0 1 0 2 1 0 1 1;\
+          gone, then range: 0 0 0 3 57 2 2 1 3 0 0 0 0 1 1;\
+          gone and room: 0 0 0 3 0 1 1 1 0 0 0 0 0 1 1;\
+          from a gone zone: 1 1 0 3 54 1 1 0 0 0 2 0 0 1 1;\
+          to a gone zone: 1 0 1 3 54 1 1 0 0 0 2 0 0 1 1;\
+          from a gone zone to itself: 1 1 1 3 54 1 1 0 0 0 2 0 0 1 1;\
+          from a gone zone, and to out of range: 1 1 3 3 54 1 1 0 0 0 2 0 0 1 1;\
+          from a gone zone, and room: 1 1 0 3 0 1 1 0 0 0 2 0 0 1 1;\
           one zone: 0 0 0 1 16 0 0;\
           two zones, no arc: 0 0 0 2 32 0 0;\
           ring: 0 0 0 3 57 3 3 0 1 2 1 2 0;\
@@ -148,6 +179,13 @@ fn main() {
           along the path: 1 0 2 3 54 2 2 0 1 0 1 2;\
           against the path: 1 2 0 3 54 2 2 0 1 0 1 2;\
           to itself: 1 2 2 3 54 2 2 0 1 0 1 2;\
+          ring past a gone zone: 0 0 0 3 57 2 2 0 2 0 2 0 0 1 1;\
+          ring past gone zones at the ends: 0 0 0 4 70 2 2 1 2 0 2 1 0 2 0 3;\
+          one zone left: 0 0 0 3 57 0 0 0 0 0 0 0 0 2 0 2;\
+          two zones left, no arc: 0 0 0 3 57 0 0 0 0 0 0 0 0 1 1;\
+          path past a gone zone: 0 0 0 3 57 1 1 0 0 0 2 0 0 1 1;\
+          along the path past a gone zone: 1 0 2 3 57 1 1 0 0 0 2 0 0 1 1;\
+          against the path past a gone zone: 1 2 0 3 57 1 1 0 0 0 2 0 0 1 1;\
           one ring, to the last zone: 0 0 0 1024 28672 4096 4096 1;\
           one ring, to the last zone: 1 0 1023 1024 28672 4096 4096 1;\
           two rings, to a zone of the first: 0 0 0 1024 28672 4096 4096 2;\

@@ -46,3 +46,19 @@ pub fn cleared(work: &[u16], zones: usize, arcs: usize) -> bool {
     }
     false
 }
+
+// How the work memory is kept: after a result, and after a refusal, which changes nothing.
+pub struct Kept {
+    pub cleared: bool,
+    pub whole: bool,
+}
+
+// How the work memory is kept, of a network of so many zones and arcs.
+pub fn kept(work: &[u16], zones: usize, arcs: usize) -> Kept {
+    let result = cleared(work, zones, arcs);
+    let refusal = holds(work, 0, work.len(), SEVEN);
+    Kept {
+        cleared: result,
+        whole: refusal,
+    }
+}

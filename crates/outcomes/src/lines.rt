@@ -12,7 +12,7 @@ fn say(text: &[u8]) {
 
 // A row's letter, or its place in the table where it has none.
 fn label(i: usize, letter: u16)
-    requires { ⌜ i < 20 ⌝ }
+    requires { ⌜ i < 40 ⌝ }
 {
     if letter == 45 {
         decimal(i + 1);
@@ -99,6 +99,21 @@ fn show_refusal(told: [u16; 5]) {
     put(b',');
 }
 
+// A question: the two zones, and the answer or the refusal.
+fn show_question(told: [u16; 5], made: [u16; 10]) {
+    list(&made, 2);
+    put(b':');
+    if told[0] != 0 {
+        show_refusal(told);
+        return;
+    }
+    if told[2] == 1 {
+        say(b" yes,");
+        return;
+    }
+    say(b" no,");
+}
+
 // What came out.
 fn show(o: Outcome) {
     let told = o.told;
@@ -115,12 +130,16 @@ fn show(o: Outcome) {
         show_refusal(told);
         return;
     }
+    if o.came == 4 {
+        show_question(told, made);
+        return;
+    }
     say(b" accepted,");
 }
 
 // Prints a line, and answers 1 where the outcome differs from the row.
 pub fn line(i: usize, call: &[u8], head: [u16; 10], made: [u16; 10], o: Outcome) -> usize
-    requires { ⌜ i < 20 ⌝ }
+    requires { ⌜ i < 40 ⌝ }
     ensures { λ r. ⌜ r ≤ 1 ⌝ }
 {
     label(i, head[0]);

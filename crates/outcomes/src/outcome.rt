@@ -1,12 +1,14 @@
 // What came out of a call, in the terms of the table's rows.
 use super::lent;
+use super::lent::Kept;
 use rules::PlanAnswer;
+use rules::ReachAnswer;
 use rules::Trouble;
 use rules::trouble_number;
 
-// An outcome: what came, as a row says what is asked for (0 a plan, 1 a skeleton, 2 a refusal), or 3, a network that
-// was read, which no row wants; the answer's numbers; how many links or bytes were put; those, each as one number, and
-// zeros after them; and whether all other lent memory is as it has to be.
+// An outcome: what came, as a row says what is asked for (0 a plan, 1 a skeleton, 2 a refusal, 4 an answered question),
+// or 3, a network that was read, which no row wants; the answer's numbers; how many links or bytes were put, or zones
+// asked about; those, each as one number, and zeros after them; and whether all other lent memory is as it has to be.
 pub struct Outcome {
     pub came: u16,
     pub told: [u16; 5],
@@ -80,9 +82,8 @@ fn untouched(c: Columns, n: usize, why: u16) -> bool {
     false
 }
 
-// A plan: its answer, the lent lists or records as columns, what a why was before, and whether the work memory is as
-// it has to be.
-pub fn planned(answer: PlanAnswer, c: Columns, why: u16, kept: bool) -> Outcome {
+// A plan: its answer, the lent lists or records as columns, what a why was before, and how the work memory is kept.
+pub fn planned(answer: PlanAnswer, c: Columns, why: u16, kept: Kept) -> Outcome {
     match answer {
         PlanAnswer::Done {
             sources,
@@ -106,16 +107,44 @@ pub fn planned(answer: PlanAnswer, c: Columns, why: u16, kept: bool) -> Outcome 
                 ],
                 count: need,
                 made: codes(from, to, whys, need),
-                kept: kept && rest,
+                kept: kept.cleared && rest,
             }
         }
-        PlanAnswer::Refused(t) => refused(t, kept),
+        PlanAnswer::Refused(t) => {
+            let rest = untouched(c, 0, why);
+            refused(t, kept.whole && rest)
+        }
+    }
+}
+
+// An answered or refused question about two zones, and how the work memory is kept: the number, the place, and 1 for
+// yes.
+pub fn questioned(answer: ReachAnswer, from: u16, to: u16, kept: Kept) -> Outcome {
+    match answer {
+        ReachAnswer::Done { yes } => Outcome {
+            came: 4,
+            told: [0, 0, if yes { 1 } else { 0 }, 0, 0],
+            count: 2,
+            made: [from, to, 0, 0, 0, 0, 0, 0, 0, 0],
+            kept: kept.cleared,
+        },
+        ReachAnswer::Refused(t) => {
+            let told = refused(t, kept.whole).told;
+            Outcome {
+                came: 4,
+                told: told,
+                count: 2,
+                made: [from, to, 0, 0, 0, 0, 0, 0, 0, 0],
+                kept: kept.whole,
+            }
+        }
     }
 }
 
 // Whether an outcome is what a row wants.
 pub fn wanted(o: Outcome, head: [u16; 10], made: [u16; 10]) -> bool {
-    if o.came != head[1] {
+    let came = if head[1] == 3 { 2 } else { head[1] };
+    if o.came != came {
         return false;
     }
     if o.count != head[4] as usize {

@@ -15,21 +15,22 @@ pub fn plan(
     zones: usize,
     tails: &[u16],
     heads: &[u16],
+    gone: &[u16],
     from: &mut [u16],
     to: &mut [u16],
     why: &mut [u16],
     work: &mut [u16],
 ) -> PlanAnswer
-    ensures { λ r. ⌜ Plan-promise zones (now (tails .entry)) (now (heads .entry)) (now (from .entry))
-        (now (to .entry)) (now (why .entry)) (now (work .entry)) (now (from .exit))
+    ensures { λ r. ⌜ Plan-promise zones (now (tails .entry)) (now (heads .entry)) (now (gone .entry))
+        (now (from .entry)) (now (to .entry)) (now (why .entry)) (now (work .entry)) (now (from .exit))
         (now (to .exit)) (now (why .exit)) (now (work .exit)) (plan-told r) ⌝ }
 {
-    let t = admission::plan(zones, tails, heads, from, to, why, work);
+    let t = admission::plan(zones, tails, heads, gone, from, to, why, work);
     if let Tested::Refused(trouble) = t {
         return PlanAnswer::Refused(trouble);
     }
     let m = map_of(zones, tails.len());
-    let r = lay(m, tails, heads, work);
+    let r = lay(m, tails, heads, gone, work);
     hand_out(work, m.links, r.need, from, to, why);
     clear(work, m.asked);
     answer_of(r)

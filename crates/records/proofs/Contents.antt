@@ -17,14 +17,14 @@ use Rattle.rules.specs.Answers.{Told, plan-told}
 use Rattle.rules.specs.Network.{Network}
 use Rattle.rules.specs.Plan.{ring, chain, back, why-number, why-of, record-of, plan, plan-values}
 use Rattle.rules.specs.Plan as Plan
-use Rattle.rules.specs.Calls.{handed, says, plan-trouble, records-trouble}
+use Rattle.rules.specs.Calls.{handed-with, says, plan-trouble, records-trouble}
 use Rattle.rules.specs.Promises.{Plan-promise, Records-promise}
 use Rattle.theory.proofs.Planning.PlanCount.{plan-length}
-use Rattle.theory.proofs.Files.Accepting.{fine-proper}
+use Rattle.theory.proofs.Files.Accepting.{fine-with-proper}
 use Rattle.rules.specs.declared.Why.{Why}
 use Rattle.rules.specs.declared.Link.{Link}
 use Rattle.drafts.specs.Drafts.{need-of}
-use Rattle.drafts.proofs.Answering.{tests-ready}
+use Rattle.drafts.proofs.Answering.{draft-ready}
 use Rattle.drafts.proofs.Rooms.{rooms-tested}
 
 -- the number of a record's why
@@ -65,19 +65,20 @@ need-told : (a : PlanAnswer) → need-of a ≡ getD (plan-told a .values) 4 0
 need-told (PlanAnswer.Done s t q p need) = refl
 need-told (PlanAnswer.Refused t) = refl
 
-module _ (n : ℕ) (ts hs from to why w : List ℕ) (ls : List Link) (a b : PlanAnswer)
+module _ (n : ℕ) (ts hs gone from to why w : List ℕ) (ls : List Link) (a b : PlanAnswer)
     {w₁ from₂ to₂ why₂ w₂ : List ℕ} {ls₁ : List Link}
     (shortest : length ls ≡ min (length from) (min (length to) (length why)))
-    (P : Records-promise n ts hs ls w ls₁ w₁ (plan-told a))
-    (Q : Plan-promise n ts hs from to why w from₂ to₂ why₂ w₂ (plan-told b)) where
+    (P : Records-promise n ts hs gone ls w ls₁ w₁ (plan-told a))
+    (Q : Plan-promise n ts hs gone from to why w from₂ to₂ why₂ w₂ (plan-told b)) where
   -- the first test that fails is the same
-  trouble-same : plan-trouble n ts hs from to why w ≡ records-trouble n ts hs (length ls) w
+  trouble-same : plan-trouble n ts hs gone from to why w ≡ records-trouble n ts hs gone (length ls) w
   unfolding records-trouble
-  trouble-same = rooms-tested n ts hs from to why w (length ls) shortest
+  trouble-same = rooms-tested n ts hs gone from to why w (length ls) shortest
 
   -- the last number that is said
   need-said :
-      need-of a ≡ getD (says 5 (records-trouble n ts hs (length ls) w) (plan-values (handed n ts hs)) .values) 4 0
+      need-of a
+      ≡ getD (says 5 (records-trouble n ts hs gone (length ls) w) (plan-values (handed-with n ts hs gone)) .values) 4 0
   need-said = need-told a ∙ ap (λ (t : Told). getD (t .values) 4 0) (P .told-is)
 
   -- the same columns, where the number of links is known
@@ -86,14 +87,14 @@ module _ (n : ℕ) (ts hs from to why w : List ℕ) (ls : List Link) (a b : Plan
   same-at k e s = subst (λ (m : ℕ). Same-columns m ls₁ from₂ to₂ why₂) (sym e) s
 
   -- after the tests
-  same-after : (t : Option Trouble) → records-trouble n ts hs (length ls) w ≡ t →
+  same-after : (t : Option Trouble) → records-trouble n ts hs gone (length ls) w ≡ t →
       Same-columns (need-of a) ls₁ from₂ to₂ why₂
   same-after (some r) e =
       same-at 0 (rw e at need-said) (record { starts = refl; ends = refl; whys = refl })
   same-after none e =
-      let N : Network = handed n ts hs in
-      let count = plan-length (fine-proper n ts hs (tests-ready n ts hs (length ls) w e .0 .fine)) in
-      let f : plan-trouble n ts hs from to why w ≡ none = trouble-same ∙ e in
+      let N : Network = handed-with n ts hs gone in
+      let count = plan-length (fine-with-proper n ts hs gone (draft-ready n ts hs gone (length ls) w e .0 .fine)) in
+      let f : plan-trouble n ts hs gone from to why w ≡ none = trouble-same ∙ e in
       let left = rw e at (P .links-left) in
       same-at (length (plan N)) (rw e at need-said ∙ sym count)
       (record {
@@ -104,4 +105,4 @@ module _ (n : ℕ) (ts hs from to why w : List ℕ) (ls : List Link) (a b : Plan
 
   -- PLAN over records leaves in its records what PLAN over lists leaves in front of its lists
   pub records-columns : Same-columns (need-of a) ls₁ from₂ to₂ why₂
-  records-columns = same-after (records-trouble n ts hs (length ls) w) refl
+  records-columns = same-after (records-trouble n ts hs gone (length ls) w) refl

@@ -43,13 +43,14 @@ pub fn plan_records(
     zones: usize,
     tails: &[u16],
     heads: &[u16],
+    gone: &[u16],
     links: &mut [Link],
     work: &mut [u16],
 ) -> PlanAnswer
-    ensures { λ r. ⌜ Records-promise zones (now (tails .entry)) (now (heads .entry)) (now (links .entry))
-        (now (work .entry)) (now (links .exit)) (now (work .exit)) (plan-told r) ⌝ }
+    ensures { λ r. ⌜ Records-promise zones (now (tails .entry)) (now (heads .entry)) (now (gone .entry))
+        (now (links .entry)) (now (work .entry)) (now (links .exit)) (now (work .exit)) (plan-told r) ⌝ }
 {
-    let answer = draft(zones, tails, heads, links.len(), work);
+    let answer = draft(zones, tails, heads, gone, links.len(), work);
     fill_links(links, work, zones, need_of(answer));
     clear_draft(answer, zones, tails.len(), work)
 }

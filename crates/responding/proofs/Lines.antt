@@ -6,7 +6,7 @@ use Prim.Native.Nat.{ℕ, _+_, _≤_}
 use native.Mathlib.Nat.{zero-add}
 use native.Mathlib.Omega.{arith}
 use mathlib.Core.Path.{_≡_, refl, sym, ap, _∙_}
-use mathlib.Core.List.{List, _++_, map}
+use mathlib.Core.List.{List, [], _++_, map}
 use mathlib.Core.Option.{none, some}
 use lib.ListN.{length, take, drop, length-append, length-map}
 use lib.Seq.{take-at}
@@ -21,8 +21,9 @@ use Rattle.rules.specs.Answers.{plan-told}
 use Rattle.rules.specs.Calls.{arcs-of, handed, network-tests, plan-trouble}
 use Rattle.rules.specs.Promises.{Plan-promise}
 use Rattle.theory.proofs.Ground.ArcLists.{arcs-length}
+use Rattle.theory.proofs.Ground.Ascending.{span-length}
 use Rattle.theory.proofs.Planning.PlanCount.{plan-length}
-use Rattle.theory.proofs.Files.Accepting.{Fine, fine, fine-proper}
+use Rattle.theory.proofs.Files.Accepting.{Fine, fine-proper, fine-with, handed-none}
 use Rattle.theory.proofs.Files.Troubles.{both-pass}
 use Rattle.theory.proofs.Demands.Calls.{Link-lists, Plan-call}
 use Rattle.theory.proofs.Demands.Answers.{plan-done-when, plan-refused-when}
@@ -56,15 +57,16 @@ column-fits : (f : Link → ℕ) (ls : List Link) (old : List ℕ) {xs : List �
 column-fits f ls old e l =
     omega (arith, ap length e, length-append (map f ls) (drop (length (map f ls)) old), length-map ls f)
 
-module _ (n : ℕ) (ts hs starts ends whys work : List ℕ) (e : plan-trouble n ts hs starts ends whys work ≡ none) where
-  -- the network handed in
+module _ (n : ℕ) (ts hs starts ends whys work : List ℕ) 
+    (e : plan-trouble n ts hs [] starts ends whys work ≡ none) where
+  -- the network handed in, with no zone withdrawn
   abbrev N : Network
   N = handed n ts hs
 
   -- it passes its own tests
   network-fine : Fine n ts hs
   unfolding plan-trouble
-  network-fine = fine n ts hs (both-pass (network-tests n ts hs) _ e .0)
+  network-fine = fine-with n ts hs [] (both-pass (network-tests n ts hs []) _ e .0) .fine
 
   -- the plan has as many links as the answer says
   links-are : length (plan N) ≡ plan-need N
@@ -76,7 +78,8 @@ module _ (n : ℕ) (ts hs starts ends whys work : List ℕ) (e : plan-trouble n 
   need-most =
       omega (
         arith,
-        need-few n (arcs-of ts hs) (fine-proper n ts hs network-fine),
+        need-few (fine-proper n ts hs network-fine),
+        span-length 0 n,
         network-fine .accepted .zones-most,
       )
 
@@ -101,8 +104,8 @@ module _ (n : ℕ) (ts hs starts ends whys work : List ℕ) (e : plan-trouble n 
 
   -- PLAN as it was called
   abbrev called : (a : PlanAnswer) {f' t' y' w' : List ℕ}
-      → Plan-promise n ts hs starts ends whys work f' t' y' w' (plan-told a)
-      → Plan-call (record { zones = n; tails = ts; heads = hs })
+      → Plan-promise n ts hs [] starts ends whys work f' t' y' w' (plan-told a)
+      → Plan-call (record { zones = n; tails = ts; heads = hs; gone = [] })
   called a {f'} {t'} {y'} {w'} k = record {
     lent = record { from = starts; to = ends; why = whys };
     left = record { from = f'; to = t'; why = y' };
@@ -114,7 +117,7 @@ module _ (n : ℕ) (ts hs starts ends whys work : List ℕ) (e : plan-trouble n 
 
   -- PLAN's answer and what it leaves: they fit into 20,000 bytes, and what is put for them is the lines of the plan
   pub planned : (a : PlanAnswer) {f' t' y' w' : List ℕ} (out : List ℕ) → 20000 ≤ length out
-      → Plan-promise n ts hs starts ends whys work f' t' y' w' (plan-told a)
+      → Plan-promise n ts hs [] starts ends whys work f' t' y' w' (plan-told a)
       → Putable a f' t' y' out × (answer-lines n (length ts) a f' t' y' ≡ handed-lines n ts hs)
   planned (PlanAnswer.Refused t) out l k =
       let some-trouble : none ≡ some t = sym e ∙ plan-refused-when (called (PlanAnswer.Refused t) k) .0 refl in
@@ -122,9 +125,10 @@ module _ (n : ℕ) (ts hs starts ends whys work : List ℕ) (e : plan-trouble n 
       absurd (omega arith)
   planned (PlanAnswer.Done s t q p need) out l k =
       let c = called (PlanAnswer.Done s t q p need) k in
-      let counts = plan-done-when c .0 refl .1 in
+      let same = handed-none n ts hs in
+      let counts = rw same at (plan-done-when c .0 refl .1) in
       let count : length (plan N) ≡ need = links-are ∙ sym (counts .need-is) in
-      let left = plan-leaves c e in
+      let left = rw same at (plan-leaves c e) in
       let starts-are = ap (λ (x : Link-lists). x .from) left in
       let ends-are = ap (λ (x : Link-lists). x .to) left in
       let whys-are = ap (λ (x : Link-lists). x .why) left in (

@@ -9,17 +9,18 @@ use rules::ReadAnswer;
 use text::put_answer;
 
 // Makes the plan of a network that passes every test, puts its lines, and answers their length. The lists that PLAN is
-// lent are as long as the largest network asks.
+// lent are as long as the largest network asks. A network file holds no withdrawn zones, so there are none.
 fn put_planned(zones: usize, tails: &[u16], heads: &[u16], out: &mut [u8]) -> usize
     requires { ⌜ Plan-lent zones (now tails) (now heads) (now out) ⌝ }
     ensures { λ r. ⌜ Written (now (out .entry)) 0 (handed-lines zones (now (tails .entry)) (now (heads .entry)))
         r (now (out .exit)) ⌝ }
 {
+    let gone = [0u16; 0];
     let mut from = [0u16; 1024];
     let mut to = [0u16; 1024];
     let mut why = [0u16; 1024];
     let mut work = [0u16; 28672];
-    let answer = plan::plan(zones, tails, heads, &mut from, &mut to, &mut why, &mut work);
+    let answer = plan::plan(zones, tails, heads, &gone, &mut from, &mut to, &mut why, &mut work);
     put_answer(zones, tails.len(), answer, &from, &to, &why, out)
 }
 

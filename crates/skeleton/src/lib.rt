@@ -35,20 +35,22 @@ fn sketch(
     count
 }
 
-// SKELETON: the arcs of the skeleton, ascending by tail, then by head.
+// SKELETON: the arcs of the skeleton, ascending by tail, then by head. Withdrawn zones are at no arc, so only the tests
+// ask for them.
 pub fn skeleton(
     zones: usize,
     tails: &[u16],
     heads: &[u16],
+    gone: &[u16],
     from: &mut [u16],
     to: &mut [u16],
     work: &mut [u16],
 ) -> SkeletonAnswer
-    ensures { λ r. ⌜ Skeleton-promise zones (now (tails .entry)) (now (heads .entry)) (now (from .entry))
-        (now (to .entry)) (now (work .entry)) (now (from .exit)) (now (to .exit))
+    ensures { λ r. ⌜ Skeleton-promise zones (now (tails .entry)) (now (heads .entry)) (now (gone .entry))
+        (now (from .entry)) (now (to .entry)) (now (work .entry)) (now (from .exit)) (now (to .exit))
         (now (work .exit)) (skeleton-told r) ⌝ }
 {
-    let t = admission::skeleton(zones, tails, heads, from, to, work);
+    let t = admission::skeleton(zones, tails, heads, gone, from, to, work);
     if let Tested::Refused(trouble) = t {
         return SkeletonAnswer::Refused(trouble);
     }

@@ -97,6 +97,7 @@ fn ask(given: &[u16], tails: &[u16], heads: &[u16]) {
         at(given, 1),
         tails,
         heads,
+        part(given, 22, at(given, 21)),
         front(&mut from, at(given, 2)),
         front(&mut to, at(given, 3)),
         front(&mut work, at(given, 4)),
@@ -135,7 +136,7 @@ fn largest(given: &[u16]) {
 }
 
 // A row's network.
-fn run(given: &[u16; 21]) {
+fn run(given: &[u16; 25]) {
     match at(given, 5) {
         4096 => largest(given),
         4097 => ask(given, &[0; 4097], &[1; 4097]),
@@ -148,7 +149,7 @@ fn row(text: &[u8], from: usize) -> usize
     requires { ⌜ from < length (now text) ⌝ }
     ensures { λ r. ⌜ from < r ⌝ }
 {
-    let mut given = [0; 21];
+    let mut given = [0; 25];
     let next = runtable::row(text, from, &mut given);
     run(&given);
     next
@@ -165,7 +166,7 @@ fn rows(text: &[u8]) {
 // Document 01's case J, and the skeleton of its skeleton; small networks; each refusal, and lists of any length; and
 // the largest networks. A row has the zones; the lengths of the two lists and of the work memory that are lent; how
 // many tails and heads there are, and those, seven places for each. 4,097 arcs are all from 0 to 1; 4,096 are the path
-// (0) or the ring (2).
+// (0) or the ring (2). Last come how many numbers are withdrawn, and those, three places.
 fn main() {
     rows(
         b"case J: 4 6 6 83 6 6 0 1 0 2 2 0 0 1 2 2 1 3 3;\
@@ -180,6 +181,11 @@ fn main() {
           one past another: 4 6 6 83 5 5 0 0 1 0 3 0 0 3 1 3 2 2;\
           a short cut before the way round: 3 6 6 83 3 3 0 0 1 0 0 0 0 2 1 2;\
           from a component to a lower one: 4 6 6 83 4 4 2 3 3 1 0 0 0 3 2 1 0;\
+          past a gone zone: 4 6 6 83 4 4 0 2 0 2 0 0 0 2 0 3 3 0 0 0 1 1;\
+          one zone left: 3 6 6 83 0 0 0 0 0 0 0 0 0 0 0 0 0 0 0 0 2 0 1;\
+          list not ascending: 4 6 6 83 0 0 0 0 0 0 0 0 0 0 0 0 0 0 0 0 2 2 1;\
+          none left: 2 6 6 83 0 0 0 0 0 0 0 0 0 0 0 0 0 0 0 0 2 0 1;\
+          gone head: 4 6 6 83 2 2 0 2 0 0 0 0 0 2 1 0 0 0 0 0 1 1;\
           pair: 4 6 6 83 2 1 0 1 0 0 0 0 0 1;\
           no zones: 0 6 6 83 0 0;\
           too many zones: 1025 6 6 83 0 0;\

@@ -8,8 +8,8 @@ pub main-spec : {M : Type 1} → statement M
 main-spec =
     tie.close
     (tie.spec
-    (λ answers₀ differ₀ i₀ answers differ i. (i ≤ 20) × ((answers ≤ 2 * i) × (differ ≤ 2 * i)))
-    (λ answers₀ differ₀ i₀ answers differ i. 20 - i)
+    (λ answers₀ differ₀ i₀ answers differ i. (i ≤ 40) × ((answers ≤ 2 * i) × (differ ≤ 2 * i)))
+    (λ answers₀ differ₀ i₀ answers differ i. 40 - i)
     (λ c. search needs)
     (λ c κs. search needs)
     (λ c. search needs)

@@ -6,7 +6,7 @@ use mathlib.Core.Option.{none}
 use Rattle.rules.specs.Calls.{records-trouble}
 use Rattle.probes.specs.Tested.{tested-trouble}
 use Rattle.theory.proofs.Files.Accepting.{fine-few}
-use Rattle.drafts.proofs.Answering.{drafted-refused, tests-ready, drafted-done}
+use Rattle.drafts.proofs.Answering.{drafted-refused, draft-ready, drafted-done}
 use Rattle.drafts.proofs.draft.Statement.{statement}
 use Rattle.drafts.proofs.draft.Tie as tie
 
@@ -16,11 +16,12 @@ Tried = tie.After-records
 
 -- the function's entry
 abbrev entry : Tried → tie.Start
-entry c = c .before .before .before .before .before
+entry c = c .before .before .before .before .before .before
 
 -- what the tests say is what was found
 found : (c : Tried) →
     records-trouble (entry c .args .zones) (entry c .args .tails .now) (entry c .args .heads .now)
+    (entry c .args .gone .now)
     (entry c .args .room) (entry c .args .work .now)
     ≡ tested-trouble (c .records .result)
 found c = sym (c .records .ensures)
@@ -32,7 +33,7 @@ Here = tie.After-enum-told
 -- there is none
 none-here : (c : Here) →
     records-trouble (entry (c .before .before) .args .zones) (entry (c .before .before) .args .tails .now)
-    (entry (c .before .before) .args .heads .now) (entry (c .before .before) .args .room)
+    (entry (c .before .before) .args .heads .now) (entry (c .before .before) .args .gone .now) (entry (c .before .before) .args .room)
     (entry (c .before .before) .args .work .now)
     ≡ none
 none-here c = found (c .before .before) ∙ ap tested-trouble (c .enum-told .given .1)
@@ -47,7 +48,7 @@ returns : tie.Need-returns
 returns c =
     let d = c .before .before .before in
     let a = entry d .args in
-    drafted-refused (a .zones) (a .tails .now) (a .heads .now) (a .room) (a .work .now) (c .before .t .given .0 .0)
+    drafted-refused (a .zones) (a .tails .now) (a .heads .now) (a .gone .now) (a .room) (a .work .now) (c .before .t .given .0 .0)
     (found d ∙ ap tested-trouble (c .before .t .given .1))
 
 enum-told : tie.Need-enum-told
@@ -56,7 +57,7 @@ enum-told c = search needs
 map-of-requires : tie.Need-map-of-requires
 map-of-requires c κs =
     let a = entry (c .before .before) .args in
-    let f = tests-ready (a .zones) (a .tails .now) (a .heads .now) (a .room) (a .work .now) (none-here c) .0 .fine in
+    let f = draft-ready (a .zones) (a .tails .now) (a .heads .now) (a .gone .now) (a .room) (a .work .now) (none-here c) .0 .ready .fine in
     (f .accepted .zones-most, fine-few f)
 
 returns-2 : tie.Need-returns-2
@@ -65,8 +66,8 @@ returns-2 c =
     let m = d .before .before in
     let e = m .before in
     let a = entry (e .before .before) .args in
-    drafted-done (a .zones) (a .tails .now) (a .heads .now) (a .room) (a .work .now) (m .map-of .result)
-    (d .lay .last .1 .1 .1 .0) (d .lay .result) (c .answer-of .result) (m .map-of .ensures) (none-here e)
+    drafted-done (a .zones) (a .tails .now) (a .heads .now) (a .gone .now) (a .room) (a .work .now) (m .map-of .result)
+    (d .lay .last .1 .1 .1 .1 .0) (d .lay .result) (c .answer-of .result) (m .map-of .ensures) (none-here e)
     (d .lay .ensures) (c .answer-of .ensures)
 
 lay-requires : tie.Need-lay-requires
@@ -74,7 +75,7 @@ lay-requires c κs =
     let m = c .before in
     let a = entry (m .before .before .before) .args in
     rw (m .map-of .ensures)
-    (tests-ready (a .zones) (a .tails .now) (a .heads .now) (a .room) (a .work .now) (none-here (m .before)) .0)
+    (draft-ready (a .zones) (a .tails .now) (a .heads .now) (a .gone .now) (a .room) (a .work .now) (none-here (m .before)) .0)
 
 answer-of-requires : tie.Need-answer-of-requires
 answer-of-requires c κs = search needs

@@ -19,12 +19,12 @@ Tried = tie.After-reach
 
 -- the function's entry
 abbrev entry : Tried → tie.Start
-entry c = c .before .before .before .before .before
+entry c = c .before .before .before .before .before .before
 
 -- what was found is REACH's trouble
 found : (c : Tried) →
     let a = entry c .args in
-    reach-trouble (a .zones) (a .tails .now) (a .heads .now) (a .from) (a .to) (a .work .now)
+    reach-trouble (a .zones) (a .tails .now) (a .heads .now) (a .gone .now) (a .from) (a .to) (a .work .now)
     ≡ tested-trouble (c .reach .result)
 found c = sym (c .reach .ensures)
 
@@ -39,7 +39,7 @@ tried c = c .before .before
 -- there is no trouble
 none-here : (c : Here) →
     let a = entry (tried c) .args in
-    reach-trouble (a .zones) (a .tails .now) (a .heads .now) (a .from) (a .to) (a .work .now) ≡ none
+    reach-trouble (a .zones) (a .tails .now) (a .heads .now) (a .gone .now) (a .from) (a .to) (a .work .now) ≡ none
 none-here c = found (tried c) ∙ ap tested-trouble (c .enum-told .given .1)
 
 reach-requires : tie.Need-reach-requires
@@ -55,7 +55,7 @@ returns : tie.Need-returns
 returns c =
     let d = c .before .before .before in
     let a = entry d .args in
-    reach-refused (a .zones) (a .tails .now) (a .heads .now) (a .from) (a .to) (a .work .now)
+    reach-refused (a .zones) (a .tails .now) (a .heads .now) (a .gone .now) (a .from) (a .to) (a .work .now)
     (c .before .t .given .0 .0) (found d ∙ ap tested-trouble (c .before .t .given .1))
 
 enum-told : tie.Need-enum-told
@@ -68,7 +68,8 @@ askable-here : (c : Here) →
     (a .work .now)
 askable-here c =
     let a = entry (tried c) .args in
-    reach-askable (a .zones) (a .tails .now) (a .heads .now) (a .from) (a .to) (a .work .now) (none-here c)
+    reach-askable (a .zones) (a .tails .now) (a .heads .now) (a .gone .now) (a .from) (a .to) (a .work .now) (none-here c)
+    .0
 
 map-of-requires : tie.Need-map-of-requires
 map-of-requires c κs = let F = askable-here c .ready .fine in (F .accepted .zones-most, fine-few F)
@@ -84,7 +85,7 @@ returns-2 c =
     let j = c .before .before in
     let e = j .before .before .before in
     let a = entry (tried e) .args in
-    reach-done (a .zones) (a .tails .now) (a .heads .now) (a .from) (a .to) (a .work .now) _ (j .reached .result)
+    reach-done (a .zones) (a .tails .now) (a .heads .now) (a .gone .now) (a .from) (a .to) (a .work .now) _ (j .reached .result)
     (none-here e)
     (rw (j .before .before .map-of .ensures) at (j .reached .ensures))
 

@@ -16,12 +16,12 @@ Tried = tie.After-strong
 
 -- the function's entry
 abbrev entry : Tried → tie.Start
-entry c = c .before .before .before .before .before
+entry c = c .before .before .before .before .before .before
 
 -- what was found is STRONG's trouble
 found : (c : Tried) →
     let a = entry c .args in
-    strong-trouble (a .zones) (a .tails .now) (a .heads .now) (a .work .now) ≡ tested-trouble (c .strong .result)
+    strong-trouble (a .zones) (a .tails .now) (a .heads .now) (a .gone .now) (a .work .now) ≡ tested-trouble (c .strong .result)
 found c = sym (c .strong .ensures)
 
 -- they found no trouble
@@ -35,7 +35,7 @@ tried c = c .before .before
 -- there is no trouble
 none-here : (c : Here) →
     let a = entry (tried c) .args in
-    strong-trouble (a .zones) (a .tails .now) (a .heads .now) (a .work .now) ≡ none
+    strong-trouble (a .zones) (a .tails .now) (a .heads .now) (a .gone .now) (a .work .now) ≡ none
 none-here c = found (tried c) ∙ ap tested-trouble (c .enum-told .given .1)
 
 strong-requires : tie.Need-strong-requires
@@ -51,7 +51,7 @@ returns : tie.Need-returns
 returns c =
     let d = c .before .before .before in
     let a = entry d .args in
-    strong-refused (a .zones) (a .tails .now) (a .heads .now) (a .work .now) (c .before .t .given .0 .0)
+    strong-refused (a .zones) (a .tails .now) (a .heads .now) (a .gone .now) (a .work .now) (c .before .t .given .0 .0)
     (found d ∙ ap tested-trouble (c .before .t .given .1))
 
 enum-told : tie.Need-enum-told
@@ -60,7 +60,7 @@ enum-told c = search needs
 map-of-requires : tie.Need-map-of-requires
 map-of-requires c κs =
     let a = entry (tried c) .args in
-    let F = strong-ready (a .zones) (a .tails .now) (a .heads .now) (a .work .now) (none-here c) .fine in
+    let F = strong-ready (a .zones) (a .tails .now) (a .heads .now) (a .gone .now) (a .work .now) (none-here c) .ready .fine in
     (F .accepted .zones-most, fine-few F)
 
 joined-requires : tie.Need-joined-requires
@@ -68,7 +68,7 @@ joined-requires c κs =
     let e = c .before .before in
     let a = entry (tried e) .args in
     rw (c .before .map-of .ensures)
-    (strong-ready (a .zones) (a .tails .now) (a .heads .now) (a .work .now) (none-here e))
+    (strong-ready (a .zones) (a .tails .now) (a .heads .now) (a .gone .now) (a .work .now) (none-here e))
 
 same-length-2 : tie.Need-same-length-2
 same-length-2 c = search needs
@@ -78,7 +78,7 @@ returns-2 c =
     let j = c .before .before in
     let e = j .before .before .before in
     let a = entry (tried e) .args in
-    strong-done (a .zones) (a .tails .now) (a .heads .now) (a .work .now) _ (j .joined .result) (none-here e)
+    strong-done (a .zones) (a .tails .now) (a .heads .now) (a .gone .now) (a .work .now) _ (j .joined .result) (none-here e)
     (rw (j .before .before .map-of .ensures) at (j .joined .ensures))
 
 pub strong-spec : {M : Type 1} → statement M

@@ -20,11 +20,11 @@ Tried = tie.After-plan
 
 -- the function's entry
 abbrev entry : Tried → tie.Start
-entry c = c .before .before .before .before .before .before .before .before .before .before .before
+entry c = c .before .before .before .before .before .before .before .before .before .before .before .before
 
 -- what PLAN's tests say is what was found
 found : (c : Tried) →
-    plan-trouble (entry c .args .zones) (entry c .args .tails .now) (entry c .args .heads .now)
+    plan-trouble (entry c .args .zones) (entry c .args .tails .now) (entry c .args .heads .now) (entry c .args .gone .now)
     (entry c .args .from .now) (entry c .args .to .now) (entry c .args .why .now) (entry c .args .work .now)
     ≡ tested-trouble (c .plan .result)
 found c = sym (c .plan .ensures)
@@ -36,7 +36,8 @@ Here = tie.After-enum-told
 -- there is none
 none-here : (c : Here) →
     plan-trouble (entry (c .before .before) .args .zones) (entry (c .before .before) .args .tails .now)
-    (entry (c .before .before) .args .heads .now) (entry (c .before .before) .args .from .now)
+    (entry (c .before .before) .args .heads .now)
+    (entry (c .before .before) .args .gone .now) (entry (c .before .before) .args .from .now)
     (entry (c .before .before) .args .to .now) (entry (c .before .before) .args .why .now)
     (entry (c .before .before) .args .work .now)
     ≡ none
@@ -45,12 +46,13 @@ none-here c = found (c .before .before) ∙ ap tested-trouble (c .enum-told .giv
 -- the input passes the tests
 plannable : (c : Here) →
     Plannable (entry (c .before .before) .args .zones) (entry (c .before .before) .args .tails .now)
-    (entry (c .before .before) .args .heads .now) (entry (c .before .before) .args .from .now)
+    (entry (c .before .before) .args .heads .now)
+    (entry (c .before .before) .args .gone .now) (entry (c .before .before) .args .from .now)
     (entry (c .before .before) .args .to .now) (entry (c .before .before) .args .why .now)
     (entry (c .before .before) .args .work .now)
 plannable c =
     let a = entry (c .before .before) .args in
-    tests-plannable (a .zones) (a .tails .now) (a .heads .now) (a .from .now) (a .to .now) (a .why .now) (a .work .now)
+    tests-plannable (a .zones) (a .tails .now) (a .heads .now) (a .gone .now) (a .from .now) (a .to .now) (a .why .now) (a .work .now)
     (none-here c)
 
 -- the map is made
@@ -80,7 +82,7 @@ out c = c .before .before .before .before .before .before .before
 -- what copying the links out asks for: the columns lie in the memory, and each is as long as the plan is
 copies : (c : Laid) →
     let m = map c .map-of .result in
-    let w = c .lay .last .1 .1 .1 .0 in
+    let w = c .lay .last .1 .1 .1 .1 .0 in
     let k = c .lay .result .need in
     ((m .links .from + k ≤ length w) × (m .links .to + k ≤ length w))
     × ((m .links .why + k ≤ length w) × (k ≤ entry (here c .before .before) .args .zones))
@@ -89,7 +91,7 @@ copies c =
     let p = placed e in
     let l = links-placed e in
     let d = c .lay .ensures in
-    let r = plannable (here c) .ready .room in
+    let r = plannable (here c) .ready .ready .room in
     ((omega arith, omega arith), (omega arith, omega arith))
 
 plan-requires : tie.Need-plan-requires
@@ -114,14 +116,14 @@ returns : tie.Need-returns
 returns c =
     let d = c .before .before .before in
     let a = entry d .args in
-    plan-refused (a .zones) (a .tails .now) (a .heads .now) (a .from .now) (a .to .now) (a .why .now) (a .work .now)
+    plan-refused (a .zones) (a .tails .now) (a .heads .now) (a .gone .now) (a .from .now) (a .to .now) (a .why .now) (a .work .now)
     (c .before .t .given .0 .0) (found d ∙ ap tested-trouble (c .before .t .given .1))
 
 enum-told : tie.Need-enum-told
 enum-told c = search needs
 
 map-of-requires : tie.Need-map-of-requires
-map-of-requires c κs = let f = plannable c .ready .fine in (f .accepted .zones-most, fine-few f)
+map-of-requires c κs = let f = plannable c .ready .ready .fine in (f .accepted .zones-most, fine-few f)
 
 lay-requires : tie.Need-lay-requires
 lay-requires c κs = let m = c .before in rw (m .map-of .ensures) (plannable (tests m) .ready)
@@ -144,7 +146,7 @@ clear-requires : tie.Need-clear-requires
 clear-requires c κs =
     let d = out (c .before .before .before .before .before .before .before) in
     let p = placed (map d .map-of .ensures) in
-    omega (arith, plannable (here d) .ready .room, d .lay .ensures .long)
+    omega (arith, plannable (here d) .ready .ready .room, d .lay .ensures .long)
 
 answer-of-requires : tie.Need-answer-of-requires
 answer-of-requires c κs = search needs
@@ -169,8 +171,8 @@ returns-2 c =
     let o = g .hand-out in
     let m = map d in
     let a = entry (here d .before .before) .args in
-    plan-done (a .zones) (a .tails .now) (a .heads .now) (a .from .now) (a .to .now) (a .why .now) (a .work .now)
-    (m .map-of .result) (d .lay .last .1 .1 .1 .0) (o .last .1 .1 .1 .0) (o .last .1 .1 .1 .1 .0)
+    plan-done (a .zones) (a .tails .now) (a .heads .now) (a .gone .now) (a .from .now) (a .to .now) (a .why .now) (a .work .now)
+    (m .map-of .result) (d .lay .last .1 .1 .1 .1 .0) (o .last .1 .1 .1 .0) (o .last .1 .1 .1 .1 .0)
     (o .last .1 .1 .1 .1 .1 .0) (h .clear .last .0) (d .lay .result) (c .answer-of .result) (m .map-of .ensures)
     (none-here (here d)) (d .lay .ensures) (c .answer-of .ensures) (o .ensures .starts-out) (o .ensures .ends-out)
     (o .ensures .whys-out) (h .clear .ensures)

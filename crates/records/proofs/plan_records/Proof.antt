@@ -87,15 +87,16 @@ words ℓ μ = sliceTy (tyRef ℓ μ (tyInt w16))
 abbrev links : Lifetime → Ty
 links ℓ = sliceTy (tyRef ℓ mut link)
 
--- the parameters: zones, tails, heads, links and work
-abbrev formals : List (Formal 4)
-formals = number ∷ reads 0 tt u16 ∷ reads 1 tt u16 ∷ gives 2 tt T.the-row ∷ gives 3 tt u16 ∷ []
+-- the parameters: zones, tails, heads, withdrawn zones, links and work
+abbrev formals : List (Formal 5)
+formals =
+    number ∷ reads 0 tt u16 ∷ reads 1 tt u16 ∷ reads 2 tt u16 ∷ gives 3 tt T.the-row ∷ gives 4 tt u16 ∷ []
 
 -- the locals' types: the result, the parameters, and then the answer, a number, and each lent slice with its pointer
 abbrev locals : List Ty
 locals =
-    P′.mir ∷ tyInt w64 ∷ words (named 0) imm ∷ words (named 1) imm ∷ links (named 2) ∷ words (named 3) mut ∷ P′.mir
-    ∷ tyInt w64 ∷ tyRef erased mut (tyInt w16) ∷ words erased mut ∷ tyUnit ∷ tyRef erased mut link ∷ links erased
+    P′.mir ∷ tyInt w64 ∷ words (named 0) imm ∷ words (named 1) imm ∷ words (named 2) imm ∷ links (named 3)
+    ∷ words (named 4) mut ∷ P′.mir ∷ tyInt w64 ∷ tyRef erased mut (tyInt w16) ∷ words erased mut ∷ tyUnit ∷ tyRef erased mut link ∷ links erased
     ∷ tyRef erased imm (tyInt w16) ∷ words erased imm ∷ tyRef erased mut (tyInt w16) ∷ words erased mut ∷ []
 
 module _ {M : Type 1} {𝓤 : URA M} {H : Heap 𝓤} {A : Atoms 𝓤} (W : Given 𝓤 H A) (mem : Memory → SProp 𝓤)
@@ -113,19 +114,20 @@ module _ {M : Type 1} {𝓤 : URA M} {H : Heap 𝓤} {A : Atoms 𝓤} (W : Given
   abbrev Clear : Contract 𝓤
   Clear = Callee W cl.ended (cl.clauses 𝓤 H A mem run)
 
-  module _ (κt κh κl κw : Lft) (qt qh ql qw : Share) (n : ℕ) (ts hs : RefT (List ℕ)) (ls : RefT (List Link))
+  module _ (κt κh κg κl κw : Lft) (qt qh qg ql qw : Share) (n : ℕ) (ts hs gs : RefT (List ℕ)) (ls : RefT (List Link))
       (w : RefT (List ℕ)) (n-fits : n < 2 ^ 64) (ts-fit : Room u16 (length (ts .now)))
-      (hs-fit : Room u16 (length (hs .now))) (ls-fit : Room T.the-row (length (ls .now)))
+      (hs-fit : Room u16 (length (hs .now))) (gs-fit : Room u16 (length (gs .now)))
+      (ls-fit : Room T.the-row (length (ls .now)))
       (w-fit : Room u16 (length (w .now))) where
     -- lifetimes, shares and arguments
-    abbrev κs : Lfts 4
-    κs = (κt, (κh, (κl, (κw, tt))))
+    abbrev κs : Lfts 5
+    κs = (κt, (κh, (κg, (κl, (κw, tt)))))
 
-    abbrev qs : Shares 4
-    qs = (qt, (qh, (ql, (qw, tt))))
+    abbrev qs : Shares 5
+    qs = (qt, (qh, (qg, (ql, (qw, tt)))))
 
     abbrev a : Args pr.signature κs
-    a = (n, (ts, (hs, (ls, (w, tt)))))
+    a = (n, (ts, (hs, (gs, (ls, (w, tt))))))
 
     abbrev at : Vals pr.signature κs
     at = valss (typesAt (slots formals) κs) (spells κs formals) a
@@ -157,11 +159,17 @@ module _ {M : Type 1} {𝓤 : URA M} {H : Heap 𝓤} {A : Atoms 𝓤} (W : Given
     abbrev to-draft : ℕ → GName → Draft .Ghost
     to-draft ν δ = (
       (
-        (κt, (κh, (ν ∷ [], tt))),
-        (qt, (qh, (fullShare, tt))),
+        (κt, (κh, (κg, (ν ∷ [], tt)))),
+        (qt, (qh, (qg, (fullShare, tt)))),
         tt,
-        (n, (ts, (hs, (length (ls .now), (memory δ (w .now), tt))))),
-        (uint-vals w64 n, (slice-vals ts, (slice-vals hs, (uint-vals w64 (length (ls .now)), (slice-vals w, tt))))),
+        (n, (ts, (hs, (gs, (length (ls .now), (memory δ (w .now), tt)))))),
+        (
+          uint-vals w64 n,
+          (
+            slice-vals ts,
+            (slice-vals hs, (slice-vals gs, (uint-vals w64 (length (ls .now)), (slice-vals w, tt)))),
+          ),
+        ),
       ),
       tt,
     )
@@ -200,48 +208,61 @@ module _ {M : Type 1} {𝓤 : URA M} {H : Heap 𝓤} {A : Atoms 𝓤} (W : Given
         ent 𝓤 (onEntry 𝓤 H A pr.signature κs qs a at)
         (WpFn 𝓤 H C Λ code.function (flat (typesAt (slots formals) κs) at) Post)
     walk C Λ fm known-draft known-need known-fill known-clear =
-        let tails : ℕ = 1 in let heads : ℕ = 2 in let records : ℕ = 3 in let work : ℕ = 4 in let lent : ℕ = 5 in
-        let answer : ℕ = 6 in let rest : ℕ = owned 7 in
+        let tails : ℕ = 1 in let heads : ℕ = 2 in let gone : ℕ = 3 in let records : ℕ = 4 in let work : ℕ = 5 in
+        let lent : ℕ = 6 in let answer : ℕ = 7 in let rest : ℕ = owned 8 in
         enters W C Λ code.function locals (flat (typesAt (slots formals) κs) at) Post
-        (naming (token tails ∷ token heads ∷ token records ∷ token work ∷ []) (tokens 4 κs qs))
-        (naming (rest ∷ owned tails ∷ owned heads ∷ owned records ∷ owned work ∷ [])
+        (naming (token tails ∷ token heads ∷ token gone ∷ token records ∷ token work ∷ []) (tokens 5 κs qs))
+        (naming (rest ∷ owned tails ∷ owned heads ∷ owned gone ∷ owned records ∷ owned work ∷ [])
         (owned-of (typesAt (slots formals) κs) a at)) refl
-        (word n n-fits, (sized _ (ts-fit .0), (sized _ (hs-fit .0), (sized _ (ls-fit .0), (sized _ (w-fit .0), tt)))))
+        (
+          word n n-fits,
+          (
+            sized _ (ts-fit .0),
+            (sized _ (hs-fit .0), (sized _ (gs-fit .0), (sized _ (ls-fit .0), (sized _ (w-fit .0), tt)))),
+          ),
+        )
         (λ bs.
         lets ! (of-opd ! (length-of ! refl refl)) refl tt (word _ (ls-fit .0)) $
         lets ! (addr ! (data-of ! refl refl)) refl tt (tt, tt) $
         lets ! (slice-again ! refl refl refl) refl tt (sized _ (w-fit .0)) $
-        -- tails and heads are kept for the exit
+        -- tails, heads and withdrawn zones are kept for the exit
         copies ! (owned tails) (lender tails) refl refl
         (shr-slice-copy 𝓤 H A W (named 0) κt u16 .twice ts (slice-vals ts)) $
         copies ! (owned heads) (lender heads) refl refl
         (shr-slice-copy 𝓤 H A W (named 1) κh u16 .twice hs (slice-vals hs)) $
+        copies ! (owned gone) (lender gone) refl refl
+        (shr-slice-copy 𝓤 H A W (named 2) κg u16 .twice gs (slice-vals gs)) $
         -- the draft is lent the work memory again, for a lifetime ν
         lft-new ! tt (λ ν. takes ! (owned work ∷ token work ∷ []) refl $
         use2 W
         (later
         (some
         (λ (δ : GName).
-        Whole (named 2) (ν ∷ []) δ (w .now)
+        Whole (named 3) (ν ∷ []) δ (w .now)
         ⊛ ‵ (LentAgain u16 κw (ν ∷ []) qw (w .name) (w .ptr .0) (w .ptr .1) δ (w .now)))))
-        (lends-again u16 κw (ν ∷ []) qw (w .name) (w .ptr .0) (w .ptr .1) 𝓤 H A W (named 3) (named 2) (w .now)) $
+        (lends-again u16 κw (ν ∷ []) qw (w .name) (w .ptr .0) (w .ptr .1) 𝓤 H A W (named 4) (named 3) (w .now)) $
         await ! tt $ pick ! (λ δ. split ! $ keeps ! (owned lent ∷ lender work ∷ token lent ∷ []) refl $
-        takes ! (token tails ∷ token heads ∷ token lent ∷ owned tails ∷ owned heads ∷ owned lent ∷ []) refl $
+        takes !
+        (token tails ∷ token heads ∷ token gone ∷ token lent ∷ owned tails ∷ owned heads ∷ owned gone ∷ owned lent ∷ [])
+        refl $
         asks W dr.ended (dr.clauses 𝓤 H A mem run) (to-draft ν δ)
-        (free n n-fits, (carried, (carried, (free _ (ls-fit .0), (carried, tt))))) (id⊢ 𝓤 _) $
+        (free n n-fits, (carried, (carried, (carried, (free _ (ls-fit .0), (carried, tt)))))) (id⊢ 𝓤 _) $
         calls-at ! fm Draft known-draft (to-draft ν δ)
-        (arg ! refl refl (arg ! refl refl (arg ! refl refl (arg ! refl refl (arg ! refl refl (no-more !)))))) (λ u.
+        (arg ! refl refl
+        (arg ! refl refl (arg ! refl refl (arg ! refl refl (arg ! refl refl (arg ! refl refl (no-more !))))))) (λ u.
         hears W dr.ended (dr.clauses 𝓤 H A mem run) (to-draft ν δ) u tt
-        (λ r ks. Drafted n (ts .now) (hs .now) (length (ls .now)) (w .now) r (ks .1 .1 .1 .1 .0)) (λ r ks. id⊢ 𝓤 _)
-        (λ r ks p. let us : List ℕ = ks .1 .1 .1 .1 .0 in
+        (λ r ks. Drafted n (ts .now) (hs .now) (gs .now) (length (ls .now)) (w .now) r (ks .1 .1 .1 .1 .1 .0))
+        (λ r ks. id⊢ 𝓤 _)
+        (λ r ks p. let us : List ℕ = ks .1 .1 .1 .1 .1 .0 in
         keeps !
-        (rest ∷ rest ∷ rest ∷ rest ∷ final lent ∷ owned answer ∷ token tails ∷ token heads ∷ token lent ∷ []) refl $
+        (rest ∷ rest ∷ rest ∷ rest ∷ rest ∷ final lent ∷ owned answer ∷ token tails ∷ token heads ∷ token gone ∷ token lent
+        ∷ []) refl $
         takes ! (owned answer ∷ []) refl $ facts ! P.the-row (Is P.the-row) (shows 𝓤 H A P.the-row) r (u ∷ []) (λ is.
         lands-in ! refl tt (EL.lawful P.the-type P′.the-laws 𝓤 H A W tt .typed r _ is .0) $
         takes ! (final lent ∷ []) refl $ fsplit ! $ keeps ! (final lent ∷ []) refl $ feqL ! (λ long.
         takes ! (token lent ∷ lender work ∷ final lent ∷ []) refl $ lft-end ! tt $
-        use3 W (later (Whole (named 3) κw (w .name) us ⊛ ‵ (flft κw qw)))
-        (comes-back u16 κw (ν ∷ []) qw (w .name) (w .ptr .0) (w .ptr .1) 𝓤 H A W (named 3) (named 2) (w .now) δ us w-fit
+        use3 W (later (Whole (named 4) κw (w .name) us ⊛ ‵ (flft κw qw)))
+        (comes-back u16 κw (ν ∷ []) qw (w .name) (w .ptr .0) (w .ptr .1) 𝓤 H A W (named 4) (named 3) (w .now) δ us w-fit
         long) $ await ! tt $ split ! $ keeps ! (owned work ∷ token work ∷ []) refl $
         -- the records, and the work memory to read, for the filling; and how many links there are
         lets ! (addr ! (data-of ! refl refl)) refl tt (tt, tt) $
@@ -262,7 +283,7 @@ module _ {M : Type 1} {𝓤 : URA M} {H : Heap 𝓤} {A : Atoms 𝓤} (W : Given
         (some
         (λ (δ : GName).
         Shown (ν₂ ∷ []) δ us ⊛ ‵ (LentShared u16 κw (ν₂ ∷ []) qw (w .name) (w .ptr .0) (w .ptr .1) us))))
-        (lends-shared u16 κw (ν₂ ∷ []) qw (w .name) (w .ptr .0) (w .ptr .1) 𝓤 H A W (named 3) (named 1) us
+        (lends-shared u16 κw (ν₂ ∷ []) qw (w .name) (w .ptr .0) (w .ptr .1) 𝓤 H A W (named 4) (named 1) us
         (slice-vals w)) $ await ! tt $ pick ! (λ δ₂. split ! $
         keeps ! (owned lent ∷ lender work ∷ token lent ∷ []) refl $
         takes ! (token records ∷ token lent ∷ owned records ∷ owned lent ∷ []) refl $
@@ -278,8 +299,8 @@ module _ {M : Type 1} {𝓤 : URA M} {H : Heap 𝓤} {A : Atoms 𝓤} (W : Given
         lands-in ! refl tt (nothing-lawful 𝓤 H A W .typed v _ is₂ .0) $
         takes ! (final records ∷ []) refl $ fsplit ! $ keeps ! (final records ∷ []) refl $ feqL ! (λ long₂.
         takes ! (token lent ∷ lender work ∷ []) refl $ lft-end ! tt $
-        use2 W (later (Whole (named 3) κw (w .name) us ⊛ ‵ (flft κw qw)))
-        (shared-back u16 κw (ν₂ ∷ []) qw (w .name) (w .ptr .0) (w .ptr .1) 𝓤 H A W (named 3) (named 1) us (slice-vals w)
+        use2 W (later (Whole (named 4) κw (w .name) us ⊛ ‵ (flft κw qw)))
+        (shared-back u16 κw (ν₂ ∷ []) qw (w .name) (w .ptr .0) (w .ptr .1) 𝓤 H A W (named 4) (named 1) us (slice-vals w)
         (ap (λ (m : ℕ). sliceVal (w .ptr) m ∷ []) (sym long)) (subst (Room u16) (sym long) w-fit)) $ await ! tt $
         split ! $ keeps ! (owned work ∷ token work ∷ []) refl $
         -- the clearing gets the work memory for good
@@ -301,12 +322,13 @@ module _ {M : Type 1} {𝓤 : URA M} {H : Heap 𝓤} {A : Atoms 𝓤} (W : Given
         lands-in ! refl tt (EL.lawful P.the-type P′.the-laws 𝓤 H A W tt .typed r₂ _ is₃ .0) $
         -- the exit
         takes !
-        (token tails ∷ token heads ∷ token records ∷ token work ∷ lender tails ∷ lender heads ∷ final records
-        ∷ final work ∷ owned answer ∷ []) refl $ leaves ! refl refl tt $
+        (token tails ∷ token heads ∷ token gone ∷ token records ∷ token work ∷ lender tails ∷ lender heads ∷ lender gone
+        ∷ final records ∷ final work ∷ owned answer ∷ []) refl $ leaves ! refl refl tt $
         ends W pr.ended (pr.clauses 𝓤 H A mem run) ((κs, qs, tt, a, at), tt) (stays formals) u₃ r₂
-        (tt, (tt, (tt, (ks₂ .0, (ks₃ .1 .1 .1 .0, tt))))) (tt, (tt, (tt, (long₂, (long₃ ∙ long, tt)))))
+        (tt, (tt, (tt, (tt, (ks₂ .0, (ks₃ .1 .1 .1 .0, tt))))))
+        (tt, (tt, (tt, (tt, (long₂, (long₃ ∙ long, tt))))))
         (factI 𝓤 _ (emp 𝓤) (drafted-promise p e₁ e₂ e₃))
-        (free n n-fits, (carried, (carried, (carried, (carried, tt))))) carried))))))))))))))))))))
+        (free n n-fits, (carried, (carried, (carried, (carried, (carried, tt)))))) carried))))))))))))))))))))
 
 module _ {M : Type 1} {𝓤 : URA M} {H : Heap 𝓤} {A : Atoms 𝓤} (W : Given 𝓤 H A) (mem : Memory → SProp 𝓤)
     (run : Routine → Fun 𝓤) (𝓣 : Tables 𝓤 H) (known-draft : Triple 𝓤 (𝓣 .C #drafts·draft) (Draft W mem run))
@@ -321,9 +343,11 @@ module _ {M : Type 1} {𝓤 : URA M} {H : Heap 𝓤} {A : Atoms 𝓤} (W : Given
       (walked 𝓤 H A pr.ended (stays formals) (pr.clauses 𝓤 H A mem run) (WpFn 𝓤 H (𝓣 .C) (𝓣 .Λ) code.function)
       (λ κs. spells κs formals) (λ κs. tells κs formals) (λ κs qs bounds a g are.
       via 𝓤 _ (fst∗ 𝓤 _ (emp 𝓤))
-      (walk W mem run (κs .0) (κs .1 .0) (κs .1 .1 .0) (κs .1 .1 .1 .0) (qs .0) (qs .1 .0) (qs .1 .1 .0)
-      (qs .1 .1 .1 .0) (a .0) (a .1 .0) (a .1 .1 .0) (a .1 .1 .1 .0) (a .1 .1 .1 .1 .0) (are .0 .1) (are .1 .0 .0 .1)
-      (are .1 .1 .0 .0 .1) (are .1 .1 .1 .0 .0 .1) (are .1 .1 .1 .1 .0 .0 .1) (𝓣 .C) (𝓣 .Λ) (fmOf 𝓤 H (W .laws) 𝓣)
+      (walk W mem run (κs .0) (κs .1 .0) (κs .1 .1 .0) (κs .1 .1 .1 .0) (κs .1 .1 .1 .1 .0) (qs .0) (qs .1 .0)
+      (qs .1 .1 .0) (qs .1 .1 .1 .0) (qs .1 .1 .1 .1 .0) (a .0) (a .1 .0) (a .1 .1 .0) (a .1 .1 .1 .0)
+      (a .1 .1 .1 .1 .0) (a .1 .1 .1 .1 .1 .0) (are .0 .1) (are .1 .0 .0 .1) (are .1 .1 .0 .0 .1)
+      (are .1 .1 .1 .0 .0 .1) (are .1 .1 .1 .1 .0 .0 .1) (are .1 .1 .1 .1 .1 .0 .0 .1) (𝓣 .C) (𝓣 .Λ)
+      (fmOf 𝓤 H (W .laws) 𝓣)
       known-draft known-need known-fill known-clear)))
 
 -- the contract, at the function's own routine

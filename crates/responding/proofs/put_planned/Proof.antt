@@ -22,14 +22,14 @@ entry c = c .before .before .before .before .before .before .before .before
 made : (d : tie.After-plan) →
     let a = entry d .args in
     let r = d .plan .result in
-    let l = d .plan .last .1 .1 .1 in
+    let l = d .plan .last .1 .1 .1 .1 in
     Putable r (l .0) (l .1 .0) (l .1 .1 .0) (a .out .now)
     × (answer-lines (a .zones) (length (a .tails .now)) r (l .0) (l .1 .0) (l .1 .1 .0)
     ≡ handed-lines (a .zones) (a .tails .now) (a .heads .now))
 made d =
     let s = entry d in
     let most = zeros-long 1024 in
-    planned _ _ _ _ _ _ _ (plan-passes _ _ _ _ _ _ _ (s .pre .fine) (zeros-long 28672) most most most)
+    planned _ _ _ _ _ _ _ (plan-passes _ _ _ _ _ _ _ _ (s .pre .fine) (zeros-long 28672) most most most)
     (d .plan .result) (s .args .out .now) (s .pre .lines-fit) (d .plan .ensures)
 
 slice-aggregate-plan : tie.Need-slice-aggregate-plan

@@ -8,6 +8,8 @@
 --   Fine-with n ts hs gone           so it is, with its withdrawn numbers: a network that passes its tests
 --   fine-with, fine-with-tests       it is so where the tests find no trouble;   and back
 --   fine-with-bridge, fine-with-proper   the bridge to the network of the zones that remain, which is proper
+--   fine-none, handed-none           with no number withdrawn a network that is accepted passes its tests, and is the
+--                                    network of all numbers
 --   question-remain, remain-question a question passes its tests exactly where it is about two zones that remain
 -- A test that does not fail is one bound of an accepted network; the arcs go one after the other. Assumes nothing.
 use Prim.Native.Nat.{ℕ, zero, suc, _≤_, _<_}
@@ -29,7 +31,7 @@ use Rattle.rules.specs.Calls.{network-tests, question-tests}
 use Rattle.theory.proofs.Ground.Bools.{or-false}
 use Rattle.theory.proofs.Ground.ArcLists.{arcs-length, index-arcs}
 use Rattle.theory.proofs.Ground.Ascending.{network-proper}
-use Rattle.theory.proofs.Withdrawn.Remaining.{stays, remaining-in, in-remaining, Free, Bridge, bridge}
+use Rattle.theory.proofs.Withdrawn.Remaining.{stays, remaining-in, in-remaining, network-none, Free, Bridge, bridge}
 use Rattle.theory.proofs.Files.Troubles.{passes, pass, both-pass, first-trouble-after}
 use Rattle.theory.proofs.Files.Listing.{list-rises, rises-list, rising-ascending, rising-below}
 use Rattle.theory.proofs.Files.Listing.{ascending-rising, some-remains, remains-some}
@@ -189,6 +191,22 @@ module _ (n : ℕ) (ts hs gone : List ℕ) where
     -- which is proper
     pub fine-with-proper : Proper (handed-with n ts hs gone)
     fine-with-proper = fine-with-bridge .proper
+
+-- with no number withdrawn, all zones remain
+pub fine-none : (n : ℕ) (ts hs : List ℕ) → Fine n ts hs → Fine-with n ts hs []
+fine-none n ts hs f =
+    record {
+      fine = f;
+      ascending = tt;
+      below = λ z m. absurd (List·Memᴰ·not-nil m);
+      remains = (0, in-remaining n [] (omega (arith, f .accepted .zones-least)) refl);
+      free = record { tails = λ m. refl; heads = λ m. refl };
+    }
+
+-- and the network is that of all numbers
+pub handed-none : (n : ℕ) (ts hs : List ℕ) → handed-with n ts hs [] ≡ handed n ts hs
+unfolding handed handed-with
+handed-none n ts hs = network-none n (arcs-of ts hs)
 
 -- a question without a trouble is about two zones that remain
 pub question-remain : (n m : ℕ) (gone : List ℕ) (a b : ℕ)

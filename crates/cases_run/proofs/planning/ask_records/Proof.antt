@@ -90,15 +90,16 @@ link = pointee (T.the-row .written)
 abbrev words : Lifetime → Mutability → Ty
 words ℓ μ = sliceTy (tyRef ℓ μ (tyInt w16))
 
--- the parameters: zones, tails, heads and work
-abbrev formals : List (Formal 3)
-formals = number ∷ reads 0 tt u16 ∷ reads 1 tt u16 ∷ gives 2 tt u16 ∷ []
+-- the parameters: zones, tails, heads, withdrawn zones and work
+abbrev formals : List (Formal 4)
+formals = number ∷ reads 0 tt u16 ∷ reads 1 tt u16 ∷ reads 2 tt u16 ∷ gives 3 tt u16 ∷ []
 
 -- the locals' types: the result, the parameters, and then the records, the answer, the records again, and each lent
 -- slice with its pointer
 abbrev locals : List Ty
 locals =
-    S′.mir ∷ tyInt w64 ∷ words (named 0) imm ∷ words (named 1) imm ∷ words (named 2) mut ∷ array ∷ P′.mir ∷ array
+    S′.mir ∷ tyInt w64 ∷ words (named 0) imm ∷ words (named 1) imm ∷ words (named 2) imm ∷ words (named 3) mut ∷ array
+    ∷ P′.mir ∷ array
     ∷ tyRef erased mut (tyArray link 10) ∷ sliceTy (tyRef erased mut link)
     ∷ tyRef erased mut (tyInt w16) ∷ words erased mut ∷ []
 
@@ -125,18 +126,19 @@ module _ {M : Type 1} {𝓤 : URA M} {H : Heap 𝓤} {A : Atoms 𝓤} (W : Given
   typed ls v is =
       array-lawful 𝓤 H A W T.the-row (LL.lawful T.the-type T′.the-laws 𝓤 H A W) 10 .typed ls (v ∷ []) is
 
-  module _ (κt κh κw : Lft) (qt qh qw : Share) (n : ℕ) (ts hs w : RefT (List ℕ)) (n-fits : n < 2 ^ 64)
+  module _ (κt κh κg κw : Lft) (qt qh qg qw : Share) (n : ℕ) (ts hs gs w : RefT (List ℕ)) (n-fits : n < 2 ^ 64)
       (ts-fit : Room u16 (length (ts .now))) (hs-fit : Room u16 (length (hs .now)))
+      (gs-fit : Room u16 (length (gs .now)))
       (w-fit : Room u16 (length (w .now))) where
     -- lifetimes, shares and arguments
-    abbrev κs : Lfts 3
-    κs = (κt, (κh, (κw, tt)))
+    abbrev κs : Lfts 4
+    κs = (κt, (κh, (κg, (κw, tt))))
 
-    abbrev qs : Shares 3
-    qs = (qt, (qh, (qw, tt)))
+    abbrev qs : Shares 4
+    qs = (qt, (qh, (qg, (qw, tt))))
 
     abbrev a : Args ar.signature κs
-    a = (n, (ts, (hs, (w, tt))))
+    a = (n, (ts, (hs, (gs, (w, tt)))))
 
     abbrev at : Vals ar.signature κs
     at = valss (typesAt (slots formals) κs) (spells κs formals) a
@@ -160,11 +162,14 @@ module _ {M : Type 1} {𝓤 : URA M} {H : Heap 𝓤} {A : Atoms 𝓤} (W : Given
     abbrev to-plan : ℕ → ℕ → GName → Plan .Ghost
     to-plan b ν δ = (
       (
-        (κt, (κh, (ν ∷ [], (κw, tt)))),
-        (qt, (qh, (fullShare, (qw, tt)))),
+        (κt, (κh, (κg, (ν ∷ [], (κw, tt))))),
+        (qt, (qh, (qg, (fullShare, (qw, tt))))),
         tt,
-        (n, (ts, (hs, (at-links b δ, (w, tt))))),
-        (uint-vals w64 n, (slice-vals ts, (slice-vals hs, (sliceVal (b, 0) 10 ∷ [], (slice-vals w, tt))))),
+        (n, (ts, (hs, (gs, (at-links b δ, (w, tt)))))),
+        (
+          uint-vals w64 n,
+          (slice-vals ts, (slice-vals hs, (slice-vals gs, (sliceVal (b, 0) 10 ∷ [], (slice-vals w, tt))))),
+        ),
       ),
       tt,
     )
@@ -175,12 +180,14 @@ module _ {M : Type 1} {𝓤 : URA M} {H : Heap 𝓤} {A : Atoms 𝓤} (W : Given
         ent 𝓤 (onEntry 𝓤 H A ar.signature κs qs a at)
         (WpFn 𝓤 H C Λ code.function (flat (typesAt (slots formals) κs) at) Post)
     walk C Λ fm known-unset known-plan =
-        let tails : ℕ = 2 in let heads : ℕ = 3 in let work : ℕ = 4 in let records : ℕ = 5 in let answer : ℕ = 6 in
-        let rest : ℕ = owned 7 in
+        let tails : ℕ = 2 in let heads : ℕ = 3 in let gone : ℕ = 4 in let work : ℕ = 5 in let records : ℕ = 6 in
+        let answer : ℕ = 7 in let rest : ℕ = owned 8 in
         enters W C Λ code.function locals (flat (typesAt (slots formals) κs) at) Post
-        (naming (token tails ∷ token heads ∷ token work ∷ []) (tokens 3 κs qs))
-        (naming (rest ∷ owned tails ∷ owned heads ∷ owned work ∷ []) (owned-of (typesAt (slots formals) κs) a at)) refl
-        (word n n-fits, (sized _ (ts-fit .0), (sized _ (hs-fit .0), (sized _ (w-fit .0), tt)))) (λ bs.
+        (naming (token tails ∷ token heads ∷ token gone ∷ token work ∷ []) (tokens 4 κs qs))
+        (naming (rest ∷ owned tails ∷ owned heads ∷ owned gone ∷ owned work ∷ [])
+        (owned-of (typesAt (slots formals) κs) a at)) refl
+        (word n n-fits, (sized _ (ts-fit .0), (sized _ (hs-fit .0), (sized _ (gs-fit .0), (sized _ (w-fit .0), tt)))))
+        (λ bs.
         let b : ℕ = get records (started locals bs (flat (typesAt (slots formals) κs) at)) .1 in
         -- the records before
         asks W un.ended (un.clauses 𝓤 H A mem run) to-unset tt (id⊢ 𝓤 _) $
@@ -195,11 +202,13 @@ module _ {M : Type 1} {𝓤 : URA M} {H : Heap 𝓤} {A : Atoms 𝓤} (W : Given
         -- the work memory, which is handed on
         lets ! (addr ! (data-of ! refl refl)) refl tt (tt, tt) $
         lets ! (slice-again ! refl refl refl) refl tt (sized _ (w-fit .0)) $
-        -- tails and heads are kept for the exit
+        -- tails, heads and withdrawn zones are kept for the exit
         copies ! (owned tails) (lender tails) refl refl
         (shr-slice-copy 𝓤 H A W (named 0) κt u16 .twice ts (slice-vals ts)) $
         copies ! (owned heads) (lender heads) refl refl
         (shr-slice-copy 𝓤 H A W (named 1) κh u16 .twice hs (slice-vals hs)) $
+        copies ! (owned gone) (lender gone) refl refl
+        (shr-slice-copy 𝓤 H A W (named 2) κg u16 .twice gs (slice-vals gs)) $
         -- the records are lent for a lifetime ν
         lft-new ! tt (λ ν.
         had ! Records (Is Records) (array-makes 𝓤 H A W T.the-row (LL.makes T.the-type T′.the-plain 𝓤 H A) 10)
@@ -208,24 +217,26 @@ module _ {M : Type 1} {𝓤 : URA M} {H : Heap 𝓤} {A : Atoms 𝓤} (W : Given
         (later
         (some
         (λ (δ : GName).
-        ‵ (MutSlice (named 2) (ν ∷ []) T.the-row .own (at-links b δ) (sliceVal (b, 0) 10 ∷ []))
+        ‵ (MutSlice (named 3) (ν ∷ []) T.the-row .own (at-links b δ) (sliceVal (b, 0) 10 ∷ []))
         ⊛ ‵ (flent (ν ∷ []) (Held T.the-row 10 b 0 δ)))))
-        (lends-array 𝓤 H A W T.the-row 10 b tt (named 2) (ν ∷ []) unset-links u room) $ await ! tt $ pick ! (λ δ.
+        (lends-array 𝓤 H A W T.the-row 10 b tt (named 3) (ν ∷ []) unset-links u room) $ await ! tt $ pick ! (λ δ.
         split ! $ keeps ! (owned records ∷ lender records ∷ token records ∷ []) refl $
         takes !
-        (token tails ∷ token heads ∷ token records ∷ token work ∷ owned tails ∷ owned heads ∷ owned records
-        ∷ owned work ∷ []) refl $
+        (token tails ∷ token heads ∷ token gone ∷ token records ∷ token work ∷ owned tails ∷ owned heads ∷ owned gone
+        ∷ owned records ∷ owned work ∷ []) refl $
         asks W pr.ended (pr.clauses 𝓤 H A mem run) (to-plan b ν δ)
-        (free, (carried, (carried, (carried, (carried, tt))))) (id⊢ 𝓤 _) $
+        (free, (carried, (carried, (carried, (carried, (carried, tt)))))) (id⊢ 𝓤 _) $
         calls-at ! fm Plan known-plan (to-plan b ν δ)
-        (arg ! refl refl (arg ! refl refl (arg ! refl refl (arg ! refl refl (arg ! refl refl (no-more !)))))) (λ u₁.
+        (arg ! refl refl
+        (arg ! refl refl (arg ! refl refl (arg ! refl refl (arg ! refl refl (arg ! refl refl (no-more !))))))) (λ u₁.
         hears W pr.ended (pr.clauses 𝓤 H A mem run) (to-plan b ν δ) u₁ tt
         (λ r ks.
-        Records-promise n (ts .now) (hs .now) unset-links (w .now) (ks .1 .1 .1 .0) (ks .1 .1 .1 .1 .0) (plan-told r))
-        (λ r ks. id⊢ 𝓤 _) (λ r ks p. let ls : List Link = ks .1 .1 .1 .0 in
+        Records-promise n (ts .now) (hs .now) (gs .now) unset-links (w .now) (ks .1 .1 .1 .1 .0) (ks .1 .1 .1 .1 .1 .0)
+        (plan-told r))
+        (λ r ks. id⊢ 𝓤 _) (λ r ks p. let ls : List Link = ks .1 .1 .1 .1 .0 in
         keeps !
-        (rest ∷ rest ∷ rest ∷ final records ∷ final work ∷ owned answer ∷ token tails ∷ token heads ∷ token records
-        ∷ token work ∷ []) refl $ takes ! (owned answer ∷ []) refl $
+        (rest ∷ rest ∷ rest ∷ rest ∷ final records ∷ final work ∷ owned answer ∷ token tails ∷ token heads ∷ token gone
+        ∷ token records ∷ token work ∷ []) refl $ takes ! (owned answer ∷ []) refl $
         facts ! P.the-row (Is P.the-row) (shows 𝓤 H A P.the-row) r (u₁ ∷ []) (λ is₁.
         lands-in ! refl tt (EL.lawful P.the-type P′.the-laws 𝓤 H A W tt .typed r _ is₁ .0) $
         takes ! (final work ∷ []) refl $ fsplit ! $ keeps ! (final work ∷ []) refl $ feqL ! (λ long.
@@ -243,12 +254,14 @@ module _ {M : Type 1} {𝓤 : URA M} {H : Heap 𝓤} {A : Atoms 𝓤} (W : Given
         (LL.lawful S.the-type S′.the-laws 𝓤 H A W .typed (record { answer = r; links = ls }) _
         (asked-is r ls u₁ v is₁ is₂) .0) $
         -- the exit
-        takes ! (token tails ∷ token heads ∷ token work ∷ lender tails ∷ lender heads ∷ final work ∷ []) refl $
+        takes !
+        (token tails ∷ token heads ∷ token gone ∷ token work ∷ lender tails ∷ lender heads ∷ lender gone ∷ final work ∷ [])
+        refl $
         leaves ! refl refl tt $
         ends W ar.ended (ar.clauses 𝓤 H A mem run) ((κs, qs, tt, a, at), tt) (stays formals)
         (vstruct (ofList (u₁ ∷ v ∷ []))) (record { answer = r; links = ls })
-        (tt, (tt, (tt, (ks .1 .1 .1 .1 .0, tt)))) (tt, (tt, (tt, (long, tt)))) (factI 𝓤 _ (emp 𝓤) p)
-        (free, (carried, (carried, (carried, tt))))
+        (tt, (tt, (tt, (tt, (ks .1 .1 .1 .1 .1 .0, tt))))) (tt, (tt, (tt, (tt, (long, tt))))) (factI 𝓤 _ (emp 𝓤) p)
+        (free, (carried, (carried, (carried, (carried, tt)))))
         (made
         (LL.makes S.the-type S′.the-plain 𝓤 H A (record { answer = r; links = ls })
         (vstruct (ofList (u₁ ∷ v ∷ [])) ∷ []) (asked-is r ls u₁ v is₁ is₂)))))))))))))))
@@ -264,8 +277,9 @@ module _ {M : Type 1} {𝓤 : URA M} {H : Heap 𝓤} {A : Atoms 𝓤} (W : Given
       (walked 𝓤 H A ar.ended (stays formals) (ar.clauses 𝓤 H A mem run) (WpFn 𝓤 H (𝓣 .C) (𝓣 .Λ) code.function)
       (λ κs. spells κs formals) (λ κs. tells κs formals) (λ κs qs bounds a g are.
       via 𝓤 _ (fst∗ 𝓤 _ (emp 𝓤))
-      (walk W mem run (κs .0) (κs .1 .0) (κs .1 .1 .0) (qs .0) (qs .1 .0) (qs .1 .1 .0) (a .0) (a .1 .0) (a .1 .1 .0)
-      (a .1 .1 .1 .0) (are .0 .1) (are .1 .0 .0 .1) (are .1 .1 .0 .0 .1) (are .1 .1 .1 .0 .0 .1) (𝓣 .C) (𝓣 .Λ)
+      (walk W mem run (κs .0) (κs .1 .0) (κs .1 .1 .0) (κs .1 .1 .1 .0) (qs .0) (qs .1 .0) (qs .1 .1 .0)
+      (qs .1 .1 .1 .0) (a .0) (a .1 .0) (a .1 .1 .0) (a .1 .1 .1 .0) (a .1 .1 .1 .1 .0) (are .0 .1) (are .1 .0 .0 .1)
+      (are .1 .1 .0 .0 .1) (are .1 .1 .1 .0 .0 .1) (are .1 .1 .1 .1 .0 .0 .1) (𝓣 .C) (𝓣 .Λ)
       (fmOf 𝓤 H (W .laws) 𝓣) known-unset known-plan)))
 
 -- the contract, at the function's own routine
