@@ -7,6 +7,7 @@
 --   fine-few, fine-proper            it has at most 4,096 tails, and is proper
 --   Fine-with n ts hs gone           so it is, with its withdrawn numbers: a network that passes its tests
 --   fine-with, fine-with-tests       it is so where the tests find no trouble;   and back
+--   fine-none                        a network is so with no number withdrawn
 --   fine-with-bridge, fine-with-proper   the bridge to the network of the zones that remain, which is proper
 --   question-remain, remain-question a question passes its tests exactly where it is about two zones that remain
 -- A test that does not fail is one bound of an accepted network; the arcs go one after the other. Assumes nothing.
@@ -189,6 +190,16 @@ module _ (n : ℕ) (ts hs gone : List ℕ) where
     -- which is proper
     pub fine-with-proper : Proper (handed-with n ts hs gone)
     fine-with-proper = fine-with-bridge .proper
+
+-- with no number withdrawn, what is accepted is accepted with them
+pub fine-none : (n : ℕ) (ts hs : List ℕ) → Fine n ts hs → Fine-with n ts hs []
+fine-none n ts hs f = record {
+  fine = f;
+  ascending = tt;
+  below = λ z m. absurd (List·Memᴰ·not-nil m);
+  remains = (0, in-remaining n [] (f .accepted .zones-least) refl);
+  free = record { tails = λ m. refl; heads = λ m. refl };
+}
 
 -- a question without a trouble is about two zones that remain
 pub question-remain : (n m : ℕ) (gone : List ℕ) (a b : ℕ)
