@@ -5,3 +5,4 @@ pub mod Planning
 pub mod Skeletons
 pub mod Withdrawn
 pub mod Files
+pub mod Demands

@@ -7,7 +7,7 @@
 --   passed-append, append-passed   one list after another: each test of both passes
 --   goes-on, stops               what a test that does not fail, and one that fails, makes of the trouble
 --   passes, both-pass            the same said of the first test, and of two lists, by their troubles
---   fails-or                     where there is a trouble: the first test says it, or those after it do
+--   fails-or, either-fails       where there is a trouble: the first test says it, or those after it do; and so of lists
 --   none-not-some                there is a trouble or none
 -- Each goes by cases on whether the first test fails. Assumes nothing.
 use Prim.Native.Nat.{ℕ}
@@ -90,6 +90,15 @@ both-pass xs ys e = go (first-trouble xs) (sym (first-trouble-append xs ys) ∙ 
     go : (t : Option Trouble) → or-else t (first-trouble ys) ≡ none → (t ≡ none) × (first-trouble ys ≡ none)
     go none e = (refl, e)
     go (some r) e = (cc, cc)
+
+-- where two lists of tests have a trouble, the first has it, or else the second
+pub either-fails : (xs ys : List Test) {r : Trouble} → first-trouble (xs ++ ys) ≡ some r
+    → (first-trouble xs ≡ some r) ⊎ (first-trouble ys ≡ some r)
+either-fails xs ys {r} e = go (first-trouble xs) (sym (first-trouble-append xs ys) ∙ e)
+  where
+    go : (t : Option Trouble) → or-else t (first-trouble ys) ≡ some r → (t ≡ some r) ⊎ (first-trouble ys ≡ some r)
+    go none e = inr e
+    go (some u) e = inl e
 
 -- each test of the list passes
 abbrev pub Passed : List Test → Type 0
