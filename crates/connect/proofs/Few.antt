@@ -2,25 +2,26 @@
 --   keep-three    what is left only, entered only or neither is no more than there is
 --   kinds-few     s + t + q is no more than the number of zones
 --   need-few      max(s, t) + q links, or none, are no more than the zones
+--   zones-few     zones that are all below n are no more than n
 --   strong-sum, weak-sum     in a strong network s + t + q is 1, and in any other it is 2 or more
 --   sum-strong, sum-weak     so a network is strong exactly where s + t + q is 1
 -- Assumes nothing.
 use mathlib.Core.Path.{_≡_, refl, ap, _∙_}
 use mathlib.Core.Logic.{inl, inr}
 use mathlib.Core.Bool.{Bool, true, false, not, _&&_}
-use mathlib.Core.List.{List, [], _∷_}
-use Prim.Native.Nat.{ℕ, zero, suc, _+_, _≤_}
+use mathlib.Core.List.{List, [], _∷_, List·Memᴰ as In}
+use Prim.Native.Nat.{ℕ, zero, suc, _+_, _≤_, _<_}
 use native.Mathlib.Omega.{arith}
 use lib.ListN.{length}
-use Rattle.rules.specs.Lists.{span, keep}
-use Rattle.rules.specs.Network.{Arc, Network, network-of, Proper, strong}
+use Rattle.rules.specs.Lists.{keep}
+use Rattle.rules.specs.Network.{Network, Proper, strong}
 use Rattle.rules.specs.Components.{is-name, names, entered, exited, sources, sinks, alone}
 use Rattle.rules.specs.Plan.{plan-need}
 use Rattle.rules.specs.Answers.{yes-number}
 use Rattle.theory.proofs.Ground.Bools.{bool-cases}
 use Rattle.theory.proofs.Ground.Lists.{keep-hit, keep-miss}
 use Rattle.theory.proofs.Ground.Counting.{keep-length}
-use Rattle.theory.proofs.Ground.Ascending.{span-length, in-span}
+use Rattle.theory.proofs.Ground.Ascending.{ascending-few}
 use Rattle.theory.proofs.Reaching.Reach.{strong-sound}
 use Rattle.theory.proofs.Reaching.KindCounts.{strong-kinds, weak-kinds, sources-none-sinks-none}
 use Rattle.theory.proofs.Planning.Fewest.{strong-needs-none, weak-need}
@@ -68,68 +69,57 @@ names-few : (N : Network) → length (sources N) + length (sinks N) + length (al
 unfolding sources sinks alone
 names-few N = keep-three (entered N) (exited N) (names N)
 
-module _ (n : ℕ) (es : List Arc) where
-  -- s + t + q is no more than the number of zones
-  pub kinds-few : length (sources (network-of n es)) + length (sinks (network-of n es))
-      + length (alone (network-of n es))
-      ≤ n
-  unfolding names
-  kinds-few =
-      omega (
-        arith,
-        names-few (network-of n es),
-        keep-length (is-name (network-of n es)) (span 0 n),
-        span-length 0 n,
-      )
+-- s + t + q is no more than the number of zones
+pub kinds-few : (N : Network) → length (sources N) + length (sinks N) + length (alone N) ≤ length (N .zones)
+unfolding names
+kinds-few N = omega (arith, names-few N, keep-length (is-name N) (N .zones))
 
-  module _ (P : Proper (network-of n es)) where
-    -- the number of links is no more than the number of zones
-    pub need-few : plan-need (network-of n es) ≤ n
-    need-few =
-        elim (bool-cases (strong (network-of n es))) [
-          | inl e ↦ rw (strong-needs-none (network-of n es) e) (omega arith)
-          | inr e ↦ rw (weak-need (network-of n es) e) (omega (arith, kinds-few))
-        ]
+-- the number of links is no more than the number of zones
+pub need-few : (N : Network) → plan-need N ≤ length (N .zones)
+need-few N =
+    elim (bool-cases (strong N)) [
+      | inl e ↦ rw (strong-needs-none N e) (omega arith)
+      | inr e ↦ rw (weak-need N e) (omega (arith, kinds-few N))
+    ]
 
-    -- a strong network has one component, alone
-    pub strong-sum : strong (network-of n es) ≡ true → 1 ≤ n →
-        length (sources (network-of n es)) + length (sinks (network-of n es)) + length (alone (network-of n es)) ≡ 1
-    strong-sum e h =
-        let k = strong-kinds P (strong-sound (network-of n es) e) {z = 0} (in-span 0 n (omega arith) (omega arith)) in
-        omega (arith, ap length (k .0), ap length (k .1), k .2)
+module _ {N : Network} (P : Proper N) where
+  -- where all zones are below n, they are no more than n
+  pub zones-few : (n : ℕ) → ((z : ℕ) → In z (N .zones) → z < n) → length (N .zones) ≤ n
+  zones-few n below = ascending-few n (N .zones) (P .ascending) below
 
-    -- in a network that is not strong s + t + q is 2 or more
-    pub weak-sum : strong (network-of n es) ≡ false →
-        2 ≤ length (sources (network-of n es)) + length (sinks (network-of n es)) + length (alone (network-of n es))
-    weak-sum e =
-        elim (weak-kinds P e) [
-          | inl some ↦ go (length (sinks (network-of n es))) refl some
-          | inr two ↦ omega arith
-        ]
-      where
-        go : (t : ℕ) → length (sinks (network-of n es)) ≡ t → 1 ≤ length (sources (network-of n es)) →
-            2 ≤ length (sources (network-of n es)) + length (sinks (network-of n es))
-            + length (alone (network-of n es))
-        go zero f some = absurd (omega (arith, sources-none-sinks-none P .1 f))
-        go (suc t) f some = omega arith
+  -- a strong network, with a zone, has one component, alone
+  pub strong-sum : {z : ℕ} → In z (N .zones) → strong N ≡ true →
+      length (sources N) + length (sinks N) + length (alone N) ≡ 1
+  strong-sum zone e =
+      let k = strong-kinds P (strong-sound N e) zone in
+      omega (arith, ap length (k .0), ap length (k .1), k .2)
 
-    -- a network is strong where s + t + q is 1
-    pub sum-strong :
-        length (sources (network-of n es)) + length (sinks (network-of n es)) + length (alone (network-of n es)) ≡ 1 →
-        strong (network-of n es) ≡ true
-    sum-strong h =
-        elim (bool-cases (strong (network-of n es))) [
-          | inl e ↦ e
-          | inr e ↦ absurd (omega (arith, weak-sum e))
-        ]
+  -- in a network that is not strong s + t + q is 2 or more
+  pub weak-sum : strong N ≡ false → 2 ≤ length (sources N) + length (sinks N) + length (alone N)
+  weak-sum e =
+      elim (weak-kinds P e) [
+        | inl some ↦ go (length (sinks N)) refl some
+        | inr two ↦ omega arith
+      ]
+    where
+      go : (t : ℕ) → length (sinks N) ≡ t → 1 ≤ length (sources N) →
+          2 ≤ length (sources N) + length (sinks N) + length (alone N)
+      go zero f some = absurd (omega (arith, sources-none-sinks-none P .1 f))
+      go (suc t) f some = omega arith
 
-    -- and it is not where s + t + q is another number
-    pub sum-weak : 1 ≤ n →
-        (length (sources (network-of n es)) + length (sinks (network-of n es)) + length (alone (network-of n es)) ≡ 1
-        → ⊥) →
-        strong (network-of n es) ≡ false
-    sum-weak one h =
-        elim (bool-cases (strong (network-of n es))) [
-          | inl e ↦ absurd (h (strong-sum e one))
-          | inr e ↦ e
-        ]
+  -- a network is strong where s + t + q is 1
+  pub sum-strong : length (sources N) + length (sinks N) + length (alone N) ≡ 1 → strong N ≡ true
+  sum-strong h =
+      elim (bool-cases (strong N)) [
+        | inl e ↦ e
+        | inr e ↦ absurd (omega (arith, weak-sum e))
+      ]
+
+  -- and, with a zone, it is not where s + t + q is another number
+  pub sum-weak : {z : ℕ} → In z (N .zones) → (length (sources N) + length (sinks N) + length (alone N) ≡ 1 → ⊥) →
+      strong N ≡ false
+  sum-weak zone h =
+      elim (bool-cases (strong N)) [
+        | inl e ↦ absurd (h (strong-sum zone e))
+        | inr e ↦ e
+      ]

@@ -40,12 +40,12 @@ same-length : tie.Need-same-length
 same-length c = search needs
 
 returns : tie.Need-returns
-returns c es C =
+returns c N C =
     let f = c .before .before in
     let e = f .before .before in
     let d = paired e in
     let a = start d .args in
-    connected (a .work .now) (a .side) (a .s) (a .t) (a .q) es C (d .pair .last .0) (d .pair .result)
+    connected (a .work .now) (a .side) (a .s) (a .t) (a .q) N C (d .pair .last .0) (d .pair .result)
     (d .pair .ensures) (e .counts-of .result) (e .counts-of .ensures) (f .put-links .last .0) (f .put-links .result)
     (f .put-links .ensures)
 

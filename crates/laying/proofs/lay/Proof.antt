@@ -2,7 +2,7 @@
 -- picked. Assumes nothing.
 use mathlib.Core.Path.{refl}
 use Prim.Native.Nat.{_+_, _≤_}
-use Rattle.laying.proofs.Laying.{own-map, sums-small, laid-strong, there, rule-able, rule-laid}
+use Rattle.laying.proofs.Laying.{own-map, sums-small, laid-strong, rule-able, rule-laid}
 use borrow.Author.Needs.{needs}
 use native.Mathlib.Omega.{arith}
 use Rattle.laying.proofs.lay.Statement.{statement}
@@ -14,7 +14,7 @@ Here = tie.After-survey
 
 -- the function's entry
 abbrev start : Here → tie.Start
-start c = c .before .before .before .before .before
+start c = c .before .before .before .before .before .before
 
 -- the survey, from where its numbers are read
 abbrev here : tie.After-struct-known → Here
@@ -25,17 +25,17 @@ small : (c : Here) →
     c .survey .result .sources + c .survey .result .sinks + c .survey .result .alone ≤ start c .args .m .zones
 small c =
     let a = start c .args in
-    sums-small (a .m) (a .tails .now) (a .heads .now) (a .work .now) (start c .pre) (c .survey .last .1 .1 .1 .0)
+    sums-small (a .m) (a .tails .now) (a .heads .now) (a .gone .now) (a .work .now) (start c .pre) (c .survey .last .1 .1 .1 .1 .0)
     (c .survey .result) (c .survey .ensures)
 
 survey-requires : tie.Need-survey-requires
 survey-requires c κs = search needs
 
 add-if1 : tie.Need-add-if1
-add-if1 c = omega (arith, small (here c), start (here c) .pre .fine .accepted .zones-most)
+add-if1 c = omega (arith, small (here c), start (here c) .pre .fine .fine .accepted .zones-most)
 
 add-if1-2 : tie.Need-add-if1-2
-add-if1-2 c = omega (arith, small (here c), start (here c) .pre .fine .accepted .zones-most)
+add-if1-2 c = omega (arith, small (here c), start (here c) .pre .fine .fine .accepted .zones-most)
 
 layout-of-requires : tie.Need-layout-of-requires
 layout-of-requires c κs = search needs
@@ -48,14 +48,14 @@ returns c =
     let d = here (c .before .before) in
     let a = start d .args in
     rw (c .layout-of .ensures)
-    (laid-strong (a .m) (a .tails .now) (a .heads .now) (a .work .now) (start d .pre) (d .survey .last .1 .1 .1 .0)
+    (laid-strong (a .m) (a .tails .now) (a .heads .now) (a .gone .now) (a .work .now) (start d .pre) (d .survey .last .1 .1 .1 .1 .0)
     (d .survey .result) (d .survey .ensures) (c .before .if1 .taken) _ refl refl)
 
 side-of-requires : tie.Need-side-of-requires
 side-of-requires c κs =
     let d = here (c .before) in
     let a = start d .args in
-    own-map (a .m) (a .tails .now) (a .heads .now) (a .work .now) (start d .pre) (d .survey .last .1 .1 .1 .0)
+    own-map (a .m) (a .tails .now) (a .heads .now) (a .gone .now) (a .work .now) (start d .pre) (d .survey .last .1 .1 .1 .1 .0)
     (d .survey .result) (d .survey .ensures)
 
 lesser-requires : tie.Need-lesser-requires
@@ -71,10 +71,8 @@ connect-requires c κs =
     let x = l .before in
     let d = here (x .before .before) in
     let a = start d .args in (
-      there (a .m) (a .tails .now) (a .heads .now) (a .work .now) (start d .pre) (d .survey .last .1 .1 .1 .0)
-          (d .survey .result) (d .survey .ensures) (x .before .if1 .left) (x .side-of .result) (x .side-of .ensures)
-          .0,
-      rule-able (a .m) (a .tails .now) (a .heads .now) (a .work .now) (start d .pre) (d .survey .last .1 .1 .1 .0)
+      _,
+      rule-able (a .m) (a .tails .now) (a .heads .now) (a .gone .now) (a .work .now) (start d .pre) (d .survey .last .1 .1 .1 .1 .0)
           (d .survey .result) (d .survey .ensures) (x .before .if1 .left) (x .side-of .result) (x .side-of .ensures)
           (l .lesser .result) (g .greater .result) (l .lesser .ensures) (g .greater .ensures),
     )
@@ -94,12 +92,12 @@ returns-2 c =
     let d = here (x .before .before) in
     let a = start d .args in
     let able =
-    rule-able (a .m) (a .tails .now) (a .heads .now) (a .work .now) (start d .pre) (d .survey .last .1 .1 .1 .0)
+    rule-able (a .m) (a .tails .now) (a .heads .now) (a .gone .now) (a .work .now) (start d .pre) (d .survey .last .1 .1 .1 .1 .0)
     (d .survey .result) (d .survey .ensures) (x .before .if1 .left) (x .side-of .result) (x .side-of .ensures)
     (l .lesser .result) (g .greater .result) (l .lesser .ensures) (g .greater .ensures)
     in
     rw (c .layout-of2 .ensures)
-    (rule-laid (a .m) (a .tails .now) (a .heads .now) (a .work .now) (start d .pre) (d .survey .last .1 .1 .1 .0)
+    (rule-laid (a .m) (a .tails .now) (a .heads .now) (a .gone .now) (a .work .now) (start d .pre) (d .survey .last .1 .1 .1 .1 .0)
     (d .survey .result) (d .survey .ensures) (x .before .if1 .left) (x .side-of .result) (x .side-of .ensures)
     (f .connect .last .0) (f .connect .result) (f .connect .ensures _ able))
 

@@ -1,6 +1,7 @@
 -- Laws of lists that ascend.
 --   above-ascending, above-lower  what ascends from above a number ascends, and does so from above a lower one
 --   span-in, in-span, span-ascending, span-length, span-more   the numbers in a row
+--   ascending-few                 a list that ascends below n has no more than n numbers
 --   keep-ascending                what a test keeps of a list that ascends
 --   first-lowest                  the first element that passes is the lowest
 --   network-proper                document 01's network of n zones is proper
@@ -17,7 +18,7 @@ use Rattle.rules.specs.Lists.{keep, first, span}
 use Rattle.rules.specs.Network.{Above, Ascending, Arc, _⟶_, Proper, network-of}
 use Rattle.theory.proofs.Ground.Bools.{bool-cases, true-not-false}
 use Rattle.theory.proofs.Ground.Lists.{first-hit, first-miss, keep-hit, keep-miss}
-use Rattle.theory.proofs.Ground.Counting.{above-less}
+use Rattle.theory.proofs.Ground.Counting.{above-less, ascending-distinct, answers-count}
 
 -- a list that ascends from above a number ascends
 pub above-ascending : (a : ℕ) (xs : List ℕ) → Above a xs → Ascending xs
@@ -61,6 +62,16 @@ span-ascending a (suc n) = span-above a (suc a) n (omega arith)
 pub span-length : (a n : ℕ) → length (span a n) ≡ n
 span-length a zero = refl
 span-length a (suc n) = ap suc (span-length (suc a) n)
+
+-- a list that ascends below n has no more than n numbers
+pub ascending-few : (n : ℕ) (xs : List ℕ) → Ascending xs → ((x : ℕ) → In x xs → x < n) → length xs ≤ n
+ascending-few n xs up below =
+    omega (
+      arith,
+      answers-count (λ (x : ℕ). x) xs (span 0 n) (ascending-distinct xs up)
+          (λ x m. let l = below x m in (x, in-span 0 n (omega arith) (omega arith), refl)),
+      span-length 0 n,
+    )
 
 module _ (p : ℕ → Bool) where
   -- what a test keeps ascends from above whatever the list does

@@ -6,6 +6,7 @@
 --   reaches-sound, reaches-complete   `reaches` tells exactly whether a reaches b
 --   strong-sound, strong-complete     `strong` tells exactly whether every zone reaches every zone
 --   reach-zone        what a zone reaches is a zone
+--   reach-arcs, reaches-arcs          reach, and its test, depend on the arcs alone
 -- Both directions of `via` go by induction on the list of inner zones: a run over k ∷ ks splits at its visits to k,
 -- and this by induction on the run. So no run has to be shortened, and nothing is counted. Assumes nothing.
 use Prim.Native.Nat.{ℕ}
@@ -18,7 +19,7 @@ use borrow.Author.Tests.{eqb-true, eq-eqb}
 use Rattle.rules.specs.Lists.{every}
 use Rattle.rules.specs.Network.{Arc, _⟶_, Network, Proper, Reach, same, step, Strong, has-arc, via, reaches, strong}
 use Rattle.theory.proofs.Ground.Bools.{and-true, true-and, and-then, and-then-true, true-and-then}
-use Rattle.theory.proofs.Ground.Bools.{or-else-true, true-or-else}
+use Rattle.theory.proofs.Ground.Bools.{or-else-true, true-or-else, bool-agree}
 use Rattle.theory.proofs.Ground.Lists.{any-true, true-any, every-true, true-every}
 
 -- an arc is a reach
@@ -161,3 +162,16 @@ strong-complete {N} P S =
 pub reach-zone : {N : Network} → Proper N → {a b : ℕ} → In a (N .zones) → Reach N a b → In b (N .zones)
 reach-zone P i (same e) = Memᴰ·cast (sym e) i
 reach-zone P i (step m r) = reach-zone P (P .heads m) r
+
+-- networks with the same arcs reach the same
+pub reach-arcs : {M N : Network} → M .arcs ≡ N .arcs → {a b : ℕ} → Reach M a b → Reach N a b
+reach-arcs e (same d) = same d
+reach-arcs e (step m r) = step (rw e at m) (reach-arcs e r)
+
+-- and so do their tests
+pub reaches-arcs : {M N : Network} → Proper M → Proper N → M .arcs ≡ N .arcs
+    → (a b : ℕ) → reaches M a b ≡ reaches N a b
+reaches-arcs {M} {N} P Q e a b =
+    bool-agree
+    (λ h. reaches-complete Q (reach-arcs e (reaches-sound M a b h)))
+    (λ h. reaches-complete P (reach-arcs (sym e) (reaches-sound N a b h)))

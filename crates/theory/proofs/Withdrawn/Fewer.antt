@@ -2,14 +2,14 @@
 --   fewer p N       the network whose zones are those of N that pass the test p, with the same arcs
 --   Touched p N     every arc of N has both its ends among the numbers that pass
 --   fewer-proper    it is proper where N is
---   reach-fewer, fewer-reach   reach is the same, and so are `reaches`, `together` and `name` for every number
+--   fewer-reaches, fewer-together, fewer-name   `reaches`, `together` and `name` are the same for every number
 --   fewer-names     its names are the names of N that pass
 --   fewer-sources, fewer-sinks, fewer-inner   the same lists;   fewer-alone   those alone in N that pass
 -- A run never leaves the numbers that pass, nor comes into them, since each of its arcs has both ends there. So a
 -- component of two zones or more lies within them or outside, and a zone outside is in a component by itself.
 -- Assumes nothing.
 use Prim.Native.Nat.{ℕ}
-use mathlib.Core.Path.{_≡_, sym, ap, ap₂, _∙_}
+use mathlib.Core.Path.{_≡_, refl, sym, ap, ap₂, _∙_}
 use mathlib.Core.Logic.{inl, inr}
 use mathlib.Core.Bool.{Bool, true, false, not, _&&_}
 use mathlib.Core.List.{List, List·Memᴰ as In}
@@ -17,10 +17,10 @@ use lib.Dec.{eqb}
 use Rattle.rules.specs.Lists.{keep}
 use Rattle.rules.specs.Network.{Arc, _⟶_, Network, Reach, same, step, Proper, reaches}
 use Rattle.rules.specs.Components.{together, name, is-name, names, entered, exited, sources, sinks, alone, inner}
-use Rattle.theory.proofs.Ground.Bools.{bool-cases, bool-agree, and-true, and-then, true-not-false}
+use Rattle.theory.proofs.Ground.Bools.{bool-cases, and-true, and-then, true-not-false}
 use Rattle.theory.proofs.Ground.Lists.{in-keep, any-agree, keep-agree, first-agree}
 use Rattle.theory.proofs.Ground.Ascending.{keep-ascending}
-use Rattle.theory.proofs.Reaching.Reach.{reaches-sound, reaches-complete}
+use Rattle.theory.proofs.Reaching.Reach.{reaches-arcs}
 use Rattle.theory.proofs.Reaching.Components.{together-sound}
 use Rattle.theory.proofs.Reaching.KindLaws.{left-true, entered-true}
 use Rattle.theory.proofs.Ground.Keeping.{Within, keep-keep, keep-swap, first-keep, first-default}
@@ -33,16 +33,6 @@ fewer p N = record { zones = keep p (N .zones); arcs = N .arcs }
 pub record Touched (p : ℕ → Bool) (N : Network) : Type 0 where
   pub tail-in : {a b : ℕ} → In (a ⟶ b) (N .arcs) → p a ≡ true
   pub head-in : {a b : ℕ} → In (a ⟶ b) (N .arcs) → p b ≡ true
-
--- what the network reaches, the network less zones reaches
-pub reach-fewer : (p : ℕ → Bool) {N : Network} {a b : ℕ} → Reach N a b → Reach (fewer p N) a b
-reach-fewer p (same e) = same e
-reach-fewer p (step m r) = step m (reach-fewer p r)
-
--- and back
-pub fewer-reach : (p : ℕ → Bool) (N : Network) {a b : ℕ} → Reach (fewer p N) a b → Reach N a b
-fewer-reach p N (same e) = same e
-fewer-reach p N (step m r) = step m (fewer-reach p N r)
 
 module _ {p : ℕ → Bool} {N : Network} (T : Touched p N) where
   -- what a number that passes reaches passes
@@ -72,10 +62,7 @@ module _ {p : ℕ → Bool} {N : Network} (P : Proper N) (T : Touched p N) where
 
   -- the test of reach is the same
   pub fewer-reaches : (a b : ℕ) → reaches (fewer p N) a b ≡ reaches N a b
-  fewer-reaches a b =
-      bool-agree
-      (λ h. reaches-complete P (fewer-reach p N (reaches-sound (fewer p N) a b h)))
-      (λ h. reaches-complete fewer-proper (reach-fewer p (reaches-sound N a b h)))
+  fewer-reaches a b = reaches-arcs fewer-proper P refl a b
 
   -- the test of one component is the same
   pub fewer-together : (a b : ℕ) → together (fewer p N) a b ≡ together N a b

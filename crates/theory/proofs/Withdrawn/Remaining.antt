@@ -28,7 +28,7 @@ use Rattle.theory.proofs.Ground.Bools.{false-unless, false-not, true-no
 use Rattle.theory.proofs.Ground.Lists.{any-true, true-any, keep-in, in-keep, keep-all}
 use Rattle.theory.proofs.Ground.Ascending.{span-in, in-span, span-ascending, span-length, keep-ascending}
 use Rattle.theory.proofs.Ground.Counting.{keep-length}
-use Rattle.theory.proofs.Reaching.Reach.{reach-trans, strong-sound, strong-complete}
+use Rattle.theory.proofs.Reaching.Reach.{reach-trans, reach-arcs, strong-sound, strong-complete}
 use Rattle.theory.proofs.Reaching.Components.{name-together, name-is-name}
 use Rattle.theory.proofs.Reaching.KindLaws.{is-alone, false-left, false-entered}
 use Rattle.theory.proofs.Withdrawn.Fewer
@@ -113,8 +113,7 @@ module _ (n : ℕ) {es : List Arc} {gone : List ℕ} (P : Proper (network-of n e
   bridge =
       record {
         proper = Fewer.fewer-proper P kept;
-        reach-is =
-            (Fewer.fewer-reach (stays gone) (network-of n es), Fewer.reach-fewer (stays gone));
+        reach-is = (reach-arcs refl, reach-arcs refl);
         reaches-is = Fewer.fewer-reaches P kept;
         together-is = Fewer.fewer-together P kept;
         name-is = Fewer.fewer-name P kept;
