@@ -4,12 +4,17 @@
 --   found-stays     a trouble that was found before is handed on
 --   found-goes-on   where none was found before, the tests decide
 --   found-says      what was found is the first trouble of the tests
+--   found-same      lists of tests that have the same first trouble where none was found before find the same
+--   found-told      so do two tests of one kind and place that fail for the same thing
 -- Assumes nothing.
 use mathlib.Core.Path.{_≡_, refl, sym, ap, _∙_}
-use mathlib.Core.List.{List, _++_}
+use mathlib.Core.List.{List, [], _∷_, _++_}
 use mathlib.Core.Option.{Option, none, some}
+use mathlib.Core.Bool.{Bool}
+use Prim.Native.Nat.{ℕ}
 use Rattle.rules.specs.declared.Trouble.{Trouble}
-use Rattle.rules.specs.Calls.{Test, first-trouble}
+use Rattle.rules.specs.declared.TroubleKind.{TroubleKind}
+use Rattle.rules.specs.Calls.{Test, test, first-trouble}
 use Rattle.probes.specs.declared.Tested.{Tested}
 use Rattle.theory.proofs.Files.Troubles.{or-else, first-trouble-append}
 use Rattle.probes.specs.Tested.{tested-trouble, Found-after, Found-by}
@@ -44,3 +49,19 @@ found-goes-on e f = record { first = rw e (f .first) }
 -- What was found is the first trouble of the tests.
 pub found-says : {r s : Tested} {xs : List Test} → Found-by xs r → r ≡ s → first-trouble xs ≡ tested-trouble s
 found-says f e = sym (f .first) ∙ ap tested-trouble e
+
+-- Where none was found before, two lists of tests have the same first trouble: what one finds, the other does.
+pub found-same : {b r : Tested} {xs ys : List Test}
+    → (tested-trouble b ≡ none → first-trouble xs ≡ first-trouble ys) → Found-after b xs r → Found-after b ys r
+found-same {b} {r} {xs} {ys} h f = record { first = f .first ∙ go (tested-trouble b) h }
+  where
+    go : (t : Option Trouble) → (t ≡ none → first-trouble xs ≡ first-trouble ys)
+        → or-else t (first-trouble xs) ≡ or-else t (first-trouble ys)
+    go none h = h refl
+    go (some t) h = refl
+
+-- What one test finds, another of its kind and place does that fails for the same thing.
+pub found-told : {b r : Tested} {f g : Bool} {k : TroubleKind} {at : ℕ} → f ≡ g
+    → Found-after b (test f k at ∷ []) r → Found-after b (test g k at ∷ []) r
+found-told {f = f} {g = g} {k = k} {at = at} e =
+    found-same (λ z. ap (λ (a : Bool). first-trouble (test a k at ∷ [])) e)

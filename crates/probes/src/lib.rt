@@ -2,13 +2,16 @@
 // tests find, so that a call is tested by a chain of them (crates `intake` and `admission`). A new test is a line here.
 ghost use mathlib.Core.Path.{_≡_};
 ghost use mathlib.Core.List.{[], _∷_};
-ghost use mathlib.Core.Bool.{Bool};
+ghost use mathlib.Core.Bool.{Bool, _||_};
 ghost use Rattle.rules.specs.Network.{_⟶_};
 ghost use Rattle.rules.specs.File.{zones-bad};
 ghost use Rattle.rules.specs.Calls.{test, arc-tests, question-tests, room-test};
+ghost use Rattle.zoneset.specs.Held.{held};
 ghost use Rattle.probes.specs.Tested.{Found-by, Found-after};
 use rules::Trouble;
 use rules::TroubleKind;
+use zoneset::ZoneSet;
+use zoneset::has;
 
 // What tests find: no trouble, or the first one.
 pub enum Tested {
@@ -42,24 +45,42 @@ pub fn zones_bad(zones: usize) -> bool
     1024 < zones
 }
 
-// The tests of the arc of index `i`.
-pub fn arc(zones: usize, tail: u16, head: u16, i: usize) -> Tested
-    ensures { λ r. ⌜ Found-by (arc-tests zones i (tail ⟶ head)) r ⌝ }
+// Whether one of two zones is withdrawn.
+fn either(gone: &ZoneSet, a: usize, b: usize) -> bool
+    ensures { λ r. ⌜ r ≡ (held (now (gone .entry)) a || held (now (gone .entry)) b) ⌝ }
+{
+    has(gone, a) || has(gone, b)
+}
+
+// The tests of the arc of index `i`, with the withdrawn zones.
+pub fn arc(zones: usize, tail: u16, head: u16, gone: &ZoneSet, i: usize) -> Tested
+    ensures { λ r. ⌜ Found-by (arc-tests zones i (tail ⟶ head) (held (now (gone .entry)))) r ⌝ }
 {
     let t = tail as usize;
     let h = head as usize;
+    let withdrawn = either(gone, t, h);
     let tailed = test(Tested::Fine, zones <= t, TroubleKind::Range, i);
     let headed = test(tailed, zones <= h, TroubleKind::Head, i);
-    test(headed, t == h, TroubleKind::SelfArc, i)
+    let apart = test(headed, t == h, TroubleKind::SelfArc, i);
+    test(apart, withdrawn, TroubleKind::Gone, i)
 }
 
-// The tests of the two zones of a question about a network of so many zones and arcs: the first counts as a tail, the
-// second as a head.
-pub fn question(before: Tested, zones: usize, arcs: usize, from: usize, to: usize) -> Tested
-    ensures { λ r. ⌜ Found-after before (question-tests zones arcs from to) r ⌝ }
+// The tests of the two zones of a question about a network of so many zones and arcs, with the withdrawn zones: the
+// first counts as a tail, the second as a head.
+pub fn question(
+    before: Tested,
+    zones: usize,
+    arcs: usize,
+    gone: &ZoneSet,
+    from: usize,
+    to: usize,
+) -> Tested
+    ensures { λ r. ⌜ Found-after before (question-tests zones arcs (held (now (gone .entry))) from to) r ⌝ }
 {
-    let r = test(before, zones <= from, TroubleKind::Range, arcs);
-    test(r, zones <= to, TroubleKind::Head, arcs)
+    let withdrawn = either(gone, from, to);
+    let started = test(before, zones <= from, TroubleKind::Range, arcs);
+    let ended = test(started, zones <= to, TroubleKind::Head, arcs);
+    test(ended, withdrawn, TroubleKind::Gone, arcs)
 }
 
 // The test of a lent list's length.

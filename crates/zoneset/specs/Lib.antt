@@ -1,0 +1,2 @@
+-- What a set of zone numbers holds.
+pub mod Held
