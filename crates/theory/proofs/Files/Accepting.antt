@@ -7,7 +7,6 @@
 --   fine-few, fine-proper            it has at most 4,096 tails, and is proper
 --   Fine-with n ts hs gone           so it is, with its withdrawn numbers: a network that passes its tests
 --   fine-with, fine-with-tests       it is so where the tests find no trouble;   and back
---   fine-none                        a network is so with no number withdrawn
 --   fine-with-bridge, fine-with-proper   the bridge to the network of the zones that remain, which is proper
 --   fine-none, handed-none           with no number withdrawn a network that is accepted passes its tests, and is the
 --                                    network of all numbers
