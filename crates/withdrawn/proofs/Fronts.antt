@@ -2,6 +2,7 @@
 --   Front gone i      the first i withdrawn numbers are the numbers below i
 --   front-more        one number more
 --   lowest-found      i is the lowest number that is not withdrawn, where it does not stand at its own index
+--   lowest-remains    where some zone of n remains, the lowest number that is not withdrawn is one
 -- Each element of a list that ascends is at least its index. So a number that all lower numbers stand before can only
 -- stand at its own index. Assumes nothing.
 use Prim.Native.Nat.{ℕ, zero, suc, _+_, _≤_, _<_}
@@ -12,8 +13,9 @@ use mathlib.Core.Logic.{inl, inr}
 use mathlib.Core.List.{List, [], _∷_, List·Memᴰ as In}
 use lib.ListN.{length, getD}
 use borrow.Author.Count.{below-more}
-use Rattle.rules.specs.Network.{Above, Ascending}
-use Rattle.theory.proofs.Withdrawn.Remaining.{true-listed, false-listed}
+use Rattle.rules.specs.Network.{Above, Ascending, remaining}
+use Rattle.theory.proofs.Ground.Bools.{true-not-false}
+use Rattle.theory.proofs.Withdrawn.Remaining.{true-listed, false-listed, remaining-in, in-remaining}
 use Rattle.memory.proofs.Numbers.{below?}
 use Rattle.arranged.proofs.ArrangedLaws.{at-in, in-at}
 use Rattle.withdrawn.specs.Withdrawn.{Lowest}
@@ -61,3 +63,13 @@ module _ (gone : List ℕ) (A : Ascending gone) (i : ℕ) (l : i ≤ length gone
             λ y h.
             true-listed (subst (λ (k : ℕ). In k gone) (F y h) (at-in gone y (omega arith)));
       }
+
+-- where some zone remains, the lowest number that is not withdrawn is one that does
+pub lowest-remains : (n : ℕ) (gone : List ℕ) {z o : ℕ} → In z (remaining n gone) → Lowest gone o →
+    In o (remaining n gone)
+lowest-remains n gone {z} {o} m L =
+    let r = remaining-in n gone m in
+    elim (below? z o) [
+      | inl low ↦ absurd (true-not-false (L .first z low) (r .1))
+      | inr high ↦ in-remaining n gone (omega (arith, r .0)) (L .stays)
+    ]
