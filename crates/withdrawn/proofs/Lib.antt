@@ -1,3 +1,4 @@
--- Laws of a list of withdrawn numbers: the lowest number that it leaves out, and stamps at its numbers.
+-- Laws of a list of withdrawn numbers: the lowest number that it leaves out, stamps at its numbers, and what the tests leave.
 pub mod Fronts
 pub mod Stamps
+pub mod Readying
