@@ -1,5 +1,6 @@
 //! The skeleton of an earlier archive. `bench/run --before` gives it its other
-//! name; what it takes is the same as in `include/linkplan.rs`.
+//! name; what it takes is the same as in `include/linkplan.rs`, so it is an
+//! archive that takes withdrawn zones.
 
 #[cfg(before)]
 extern "C" {
@@ -10,6 +11,8 @@ extern "C" {
         tails_len: usize,
         heads: *const u16,
         heads_len: usize,
+        gone: *const u16,
+        gone_len: usize,
         out_tails: *mut u16,
         out_tails_len: usize,
         out_heads: *mut u16,

@@ -1,4 +1,4 @@
-//! Times the archive's six calls beside the model, on eight families of
+//! Times the archive's six calls beside the model, on nine families of
 //! networks at three sizes, all in one run; the skeleton also beside a tuned
 //! program and, if there is one, an earlier archive. Prints Markdown tables to
 //! standard output and writes a plot of the ratios.

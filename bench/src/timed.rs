@@ -60,10 +60,11 @@ impl Timed {
     pub fn new(net: &Net, chance: &mut Chance) -> Timed {
         let (zones, arcs) = (net.zones, net.tails.len());
         let file = model::file::bytes(zones, &net.tails, &net.heads);
+        let stay: Vec<usize> = (0..zones).filter(|&zone| !net.gone.contains(&(zone as u16))).collect();
         Timed {
             net: net.clone(),
             tuned: Tuned::new(),
-            questions: (0..QUESTIONS).map(|_| (chance.below(zones), chance.below(zones))).collect(),
+            questions: (0..QUESTIONS).map(|_| (chance.pick(&stay), chance.pick(&stay))).collect(),
             out_file: vec![0; file.len()],
             file,
             tails: vec![0; arcs],
@@ -91,7 +92,8 @@ impl Timed {
             Side::Ours | Side::Before => self.archive(side, call),
             Side::Model => self.model(call),
             Side::Tuned => {
-                let Net { zones, tails, heads } = &self.net;
+                // It knows of no withdrawn zones, and need not: they are at no arc.
+                let Net { zones, tails, heads, .. } = &self.net;
                 self.tuned.skeleton(*zones, tails, heads, &mut self.tails, &mut self.heads, &mut self.work)
             }
         }
@@ -102,6 +104,7 @@ impl Timed {
     fn archive(&mut self, side: Side, call: usize) -> Answer {
         let (zones, arcs) = (self.net.zones, self.net.tails.len());
         let (t, h) = (self.net.tails.as_ptr(), self.net.heads.as_ptr());
+        let (g, gone) = (self.net.gone.as_ptr(), self.net.gone.len());
         let (work, work_len) = (self.work.as_mut_ptr(), self.work.len());
         let (tails, heads) = (self.tails.as_mut_ptr(), self.heads.as_mut_ptr());
         let (from, to, why) = (self.from.as_mut_ptr(), self.to.as_mut_ptr(), self.why.as_mut_ptr());
@@ -112,21 +115,23 @@ impl Timed {
         unsafe {
             match CALLS[call] {
                 "read" => linkplan_read(file, self.file.len(), tails, arcs, heads, arcs, a),
-                "write" => linkplan_write(zones, t, arcs, h, arcs, out_file, self.out_file.len(), a),
-                "strong" => linkplan_strong(zones, t, arcs, h, arcs, work, work_len, a),
+                "write" => linkplan_write(zones, t, arcs, h, arcs, g, gone, out_file, self.out_file.len(), a),
+                "strong" => linkplan_strong(zones, t, arcs, h, arcs, g, gone, work, work_len, a),
                 "reach" => {
                     let mut all = 0;
                     for &(first, second) in &self.questions {
-                        linkplan_reach(zones, t, arcs, h, arcs, first, second, work, work_len, a);
+                        linkplan_reach(zones, t, arcs, h, arcs, g, gone, first, second, work, work_len, a);
                         all = all * 2 + *a.add(2);
                     }
                     *a.add(7) = all;
                 }
                 "skeleton" => {
                     let skeleton = if side == Side::Before { before::skeleton } else { linkplan_skeleton };
-                    skeleton(zones, t, arcs, h, arcs, tails, arcs, heads, arcs, work, work_len, a);
+                    skeleton(zones, t, arcs, h, arcs, g, gone, tails, arcs, heads, arcs, work, work_len, a);
                 }
-                _ => linkplan_plan(zones, t, arcs, h, arcs, from, zones, to, zones, why, zones, work, work_len, a),
+                _ => linkplan_plan(
+                    zones, t, arcs, h, arcs, g, gone, from, zones, to, zones, why, zones, work, work_len, a,
+                ),
             }
         }
         answer
@@ -134,24 +139,27 @@ impl Timed {
 
     /// The model's answer, in the same way.
     fn model(&mut self, call: usize) -> Answer {
-        let Net { zones, tails, heads } = &self.net;
+        let Net { zones, tails, heads, gone } = &self.net;
         match CALLS[call] {
             "read" => model::read(&self.file, &mut self.tails, &mut self.heads),
-            "write" => model::write(*zones, tails, heads, &mut self.out_file),
-            "strong" => model::strong(*zones, tails, heads, &mut self.work),
+            "write" => model::write(*zones, tails, heads, gone, &mut self.out_file),
+            "strong" => model::strong(*zones, tails, heads, gone, &mut self.work),
             "reach" => {
                 let (mut answer, mut all) = ([0; 8], 0);
                 for &(first, second) in &self.questions {
-                    answer = model::reach(*zones, tails, heads, first, second, &mut self.work);
+                    answer = model::reach(*zones, tails, heads, gone, first, second, &mut self.work);
                     all = all * 2 + answer[2];
                 }
                 answer[7] = all;
                 answer
             }
             "skeleton" => {
-                model::skeleton(*zones, tails, heads, &mut self.tails, &mut self.heads, &mut self.work)
+                model::skeleton(*zones, tails, heads, gone, &mut self.tails, &mut self.heads, &mut self.work)
             }
-            _ => model::plan(*zones, tails, heads, &mut self.from, &mut self.to, &mut self.why, &mut self.work),
+            _ => {
+                let (from, to, why) = (&mut self.from, &mut self.to, &mut self.why);
+                model::plan(*zones, tails, heads, gone, from, to, why, &mut self.work)
+            }
         }
     }
 

@@ -17,7 +17,7 @@ fn compare(tuned: &mut Tuned, net: &Net, short: usize) {
     let [tails, heads, work] = &mut lent;
     let answer = tuned.skeleton(net.zones, &net.tails, &net.heads, tails, heads, work);
     let [tails, heads, work] = &mut theirs;
-    let model = model::skeleton(net.zones, &net.tails, &net.heads, tails, heads, work);
+    let model = model::skeleton(net.zones, &net.tails, &net.heads, &net.gone, tails, heads, work);
     assert!(answer == model && lent == theirs, "{net}");
 }
 

@@ -1,7 +1,8 @@
 /*
  * plan.c - reads a network file from standard input and prints its plan, as
  * linkplan does; what the other calls say, and which byte of a file is bad, goes
- * to standard error.
+ * to standard error. The arguments, if there are any, are the numbers of zones
+ * that are withdrawn, ascending.
  *
  * Build, from this directory, once `rt staticlib clib` has been run:
  *
@@ -10,8 +11,10 @@
  * Try:
  *
  *   printf '\6\5\0\2\2\3\0\4\1\4\4\5' | ./plan
+ *   printf '\3\0' | ./plan 1
  */
 #include <stdio.h>
+#include <stdlib.h>
 #include <string.h>
 
 #include "../../include/linkplan.h"
@@ -20,6 +23,9 @@
 static uint8_t file[LINKPLAN_FILE_MAX + 1];
 static uint8_t copy[LINKPLAN_FILE_MAX];
 static uint16_t tails[LINKPLAN_ARCS_MAX], heads[LINKPLAN_ARCS_MAX];
+/* One number more than there can be zones: LIST is said of it then at the latest. */
+static uint16_t gone[LINKPLAN_ZONES_MAX + 1];
+static size_t gone_len;
 static uint16_t out_tails[LINKPLAN_ARCS_MAX], out_heads[LINKPLAN_ARCS_MAX];
 static uint16_t from[LINKPLAN_ZONES_MAX], to[LINKPLAN_ZONES_MAX], why[LINKPLAN_ZONES_MAX];
 static uint16_t work[LINKPLAN_WORK_MAX];
@@ -56,25 +62,53 @@ static void where(size_t length)
         fprintf(stderr, "in the %s of arc %lu\n", number % 2 == 0 ? "tail" : "head", (unsigned long)(number / 2 - 1));
 }
 
-/* Says on standard error what the calls other than read and plan answer. A
- * network that was read is a good one, and the lists are as long as any call can
- * ask for, so none of these is refused; a caller with lists of other lengths
- * looks at answer[0] each time, as main does. */
-static void others(size_t length, size_t zones, size_t arcs)
+/* Takes the withdrawn zones from the arguments. A number that does not fit into
+ * an element is no zone's, and neither is the largest that does. */
+static void withdraw(int count, char **words)
+{
+    unsigned long number;
+
+    for (; count > 0 && gone_len < LINKPLAN_ZONES_MAX + 1; count--, words++) {
+        number = strtoul(*words, NULL, 10);
+        gone[gone_len++] = (uint16_t)(number < 65535 ? number : 65535);
+    }
+}
+
+/* Says whether a zone is withdrawn. */
+static int withdrawn(size_t zone)
 {
     size_t i;
 
-    linkplan_write(zones, tails, arcs, heads, arcs, copy, sizeof copy, answer);
+    for (i = 0; i < gone_len; i++)
+        if (gone[i] == zone)
+            return 1;
+    return 0;
+}
+
+/* Says on standard error what the calls other than read and plan answer. A
+ * network whose plan was made is a good one, and the lists are as long as any
+ * call can ask for, so none of these is refused; a caller that has not seen to
+ * that looks at answer[0] each time, as main does. */
+static void others(size_t length, size_t zones, size_t arcs)
+{
+    size_t first = 0, last = zones - 1, i;
+
+    linkplan_write(zones, tails, arcs, heads, arcs, gone, gone_len, copy, sizeof copy, answer);
     fprintf(stderr, "written again: %s\n",
             answer[2] == length && memcmp(file, copy, length) == 0 ? "the same" : "not the same");
 
-    linkplan_strong(zones, tails, arcs, heads, arcs, work, LINKPLAN_WORK_MAX, answer);
+    linkplan_strong(zones, tails, arcs, heads, arcs, gone, gone_len, work, LINKPLAN_WORK_MAX, answer);
     fprintf(stderr, "strong: %s\n", answer[2] ? "yes" : "no");
 
-    linkplan_reach(zones, tails, arcs, heads, arcs, 0, zones - 1, work, LINKPLAN_WORK_MAX, answer);
+    while (withdrawn(first))
+        first++;
+    while (withdrawn(last))
+        last--;
+    linkplan_reach(zones, tails, arcs, heads, arcs, gone, gone_len, first, last,
+                   work, LINKPLAN_WORK_MAX, answer);
     fprintf(stderr, "the first zone reaches the last: %s\n", answer[2] ? "yes" : "no");
 
-    linkplan_skeleton(zones, tails, arcs, heads, arcs, out_tails, LINKPLAN_ARCS_MAX,
+    linkplan_skeleton(zones, tails, arcs, heads, arcs, gone, gone_len, out_tails, LINKPLAN_ARCS_MAX,
                       out_heads, LINKPLAN_ARCS_MAX, work, LINKPLAN_WORK_MAX, answer);
     fprintf(stderr, "skeleton:");
     for (i = 0; i < answer[2]; i++)
@@ -82,11 +116,12 @@ static void others(size_t length, size_t zones, size_t arcs)
     fprintf(stderr, "\n");
 }
 
-int main(void)
+int main(int argc, char **argv)
 {
     static const char *const words[] = { "ring", "chain", "back" };
     size_t length, zones, arcs, need, i;
 
+    withdraw(argc - 1, argv + 1);
     length = fread(file, 1, sizeof file, stdin);
     linkplan_read(file, length, tails, LINKPLAN_ARCS_MAX, heads, LINKPLAN_ARCS_MAX, answer);
     if (refused()) {
@@ -95,10 +130,9 @@ int main(void)
     }
     zones = (size_t)answer[2];
     arcs = (size_t)answer[3];
-    others(length, zones, arcs);
 
-    linkplan_plan(zones, tails, arcs, heads, arcs, from, LINKPLAN_ZONES_MAX, to, LINKPLAN_ZONES_MAX,
-                  why, LINKPLAN_ZONES_MAX, work, LINKPLAN_WORK_MAX, answer);
+    linkplan_plan(zones, tails, arcs, heads, arcs, gone, gone_len, from, LINKPLAN_ZONES_MAX,
+                  to, LINKPLAN_ZONES_MAX, why, LINKPLAN_ZONES_MAX, work, LINKPLAN_WORK_MAX, answer);
     if (refused())
         return 0;
     need = (size_t)answer[6];
@@ -109,5 +143,6 @@ int main(void)
     for (i = 0; i < need; i++)
         printf("%u %u %s\n", (unsigned)from[i], (unsigned)to[i], words[why[i]]);
     printf("done\n");
+    others(length, zones, arcs);
     return 0;
 }

@@ -1,10 +1,11 @@
-//! Eight families of networks of any size, for the largest sizes and for timing.
+//! Nine families of networks of any size, for the largest sizes and for timing.
 
 use crate::chance::Chance;
 use crate::net::Net;
 
-pub const FAMILIES: [&str; 8] =
-    ["random", "strong", "sparse", "acyclic", "layered", "many sources", "one cycle", "one path"];
+pub const FAMILIES: [&str; 9] = [
+    "random", "strong", "sparse", "acyclic", "layered", "many sources", "one cycle", "one path", "half withdrawn",
+];
 
 /// A network of the family, with four arcs a zone where the family allows it.
 /// Zones are numbered and arcs are put in order by chance.
@@ -27,6 +28,7 @@ pub fn make(family: &str, zones: usize, chance: &mut Chance) -> Net {
         "many sources" => many_sources(zones, chance),
         "one cycle" => ring(0, zones),
         "one path" => (1..zones).map(|zone| (zone - 1, zone)).collect(),
+        "half withdrawn" => return half_withdrawn(zones, chance),
         other => panic!("no family {other}"),
     };
     mixed(zones, arcs, chance)
@@ -60,6 +62,15 @@ fn many_sources(zones: usize, chance: &mut Chance) -> Vec<(usize, usize)> {
         }
     }
     arcs
+}
+
+/// Every other zone is withdrawn, and those that remain have four arcs each.
+fn half_withdrawn(zones: usize, chance: &mut Chance) -> Net {
+    let left = zones.div_ceil(2);
+    let arcs: Vec<(usize, usize)> =
+        (0..4 * left).map(|_| two(0, left, chance)).map(|(a, b)| (2 * a, 2 * b)).collect();
+    let gone: Vec<u16> = (0..zones as u16).filter(|zone| zone % 2 == 1).collect();
+    Net::new(zones, &arcs).without(&gone)
 }
 
 /// Numbers the zones anew and puts the arcs in another order.

@@ -56,7 +56,7 @@ fn one(to: &mut Comparer, net: &Net, questions: usize) {
     let mut arcs: Vec<(usize, usize)> =
         net.tails.iter().zip(&net.heads).map(|(&a, &b)| (usize::from(a), usize::from(b))).collect();
     arcs.sort();
-    to.all(&Net::new(net.zones, &arcs), Some(1));
+    to.all(&Net::new(net.zones, &arcs).without(&net.gone), Some(1));
 }
 
 /// Shapes at the edge of one thing or another.
