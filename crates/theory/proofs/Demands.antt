@@ -10,3 +10,4 @@ pub mod Skeletons
 pub mod Linked
 pub mod Plans
 pub mod Records
+pub mod EmptyList

@@ -3,10 +3,11 @@
 --   Is-accepted       (Calls) the lists pair up, and the network and its withdrawn numbers are what a call accepts
 --   tests-accepted, accepted-tests   it is so where the tests of the network find no trouble; and back
 --   accepted-proper   it is proper
+--   question-of i x y the tests of a question from x to y
 --   remains-in        a zone that remains is below the zone count, and not withdrawn
 --   Spares i es       no arc of es begins or ends at a withdrawn zone;   remain-spares   so it is where all ends remain
 --   X-accepts         a call that ends with DONE was handed such a network
---   reach-asked       and REACH was asked about two zones that remain;   question-of i x y   the tests of a question
+--   reach-asked       and REACH was asked about two zones that remain
 --   X-rooms c         the lengths that the call c asks for, each with the length of what was lent
 --   Long-enough       each is as long as asked;   rooms   they as tests, which say ROOM at 0 (`rooms-say`)
 --   X-answers         where all are, the call ends with DONE and with what the rules give
@@ -59,13 +60,13 @@ module _ (i : Handed-in) where
   accepted-tests a more =
       first-trouble-after (tests-of i) more (fine-with-tests _ _ _ _ a)
 
+  -- an accepted network is proper
+  pub accepted-proper : Is-accepted i → Proper (network i)
+  accepted-proper a = fine-with-proper _ _ _ _ a
+
   -- the tests of a question from x to y
   abbrev pub question-of : ℕ → ℕ → List Test
   question-of x y = question-tests (i .zones) (length (i .tails)) (listed (i .gone)) x y
-
-  -- it is proper
-  pub accepted-proper : Is-accepted i → Proper (network i)
-  accepted-proper a = fine-with-proper _ _ _ _ a
 
   -- a zone that remains is below the zone count, and not withdrawn
   pub remains-in : {z : ℕ} → Remains i z → (z < i .zones) × (listed (i .gone) z ≡ false)
@@ -174,7 +175,8 @@ module _ {i : Handed-in} where
   unfolding reach-trouble
   reach-asked {x} {y} c e =
       let more = both-pass (tests-of i) _ (reach-done-when c .0 e .0) .1 in
-      question-remain (i .zones) (length (i .tails)) (i .gone) x y (both-pass (question-of i x y) (rooms (reach-rooms c)) more .0)
+      let asked = both-pass (question-of i x y) (rooms (reach-rooms c)) more .0 in
+      question-remain (i .zones) (length (i .tails)) (i .gone) x y asked
 
 -- a network that a call accepts
 module _ {i : Handed-in} (a : Is-accepted i) where

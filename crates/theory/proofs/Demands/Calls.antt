@@ -3,8 +3,8 @@
 --   network i          the network: the zones that remain, and the arcs
 --   Remains i z        the zone z remains: it is below the zone count, and not withdrawn
 --   as-given i, file-of i, tests-of i   the network as a file holds it, the file, and the tests of the network
---   Is-accepted i      the lists pair up, the network is one that a call accepts, its withdrawn numbers ascend, are some
---                      of its numbers and not all, and are at no arc
+--   Is-accepted i      the lists pair up, the network is one that a call accepts, and its withdrawn numbers ascend, are
+--                      some of its numbers and not all, and are at no arc
 --   Arc-lists          two lists, for tails and heads;   Link-lists   three, for the starts, ends and whys of links
 --   Read-call file ..  a call of READ on the bytes of a file, and so for each call
 --   lent, left         the lists that were lent, as they came and as they are afterwards;   work, work'   work memory

@@ -3,8 +3,8 @@
 --   plan-leaves             PLAN that ends with DONE leaves the rules' plan in the lists that were lent
 --   plan-counts             its answer has s, t, q, p and the number of links of the rules
 --   put-out c need          the links that it put out, as arcs: the first need elements of its lists
---   put-out-smallest        with them every zone that remains reaches every zone that remains, no smaller set does that,
---                           they are no more than the zones that remain, and each joins two distinct ones
+--   put-out-smallest        with them every zone that remains reaches every other, no smaller set does that, they are
+--                           no more than the zones that remain, and each joins two distinct ones
 --   put-out-spares          none of them is at a withdrawn zone
 --   put-out-none            an already strong network gets no link, and the lent lists stay as they came
 --   put-out-one-zone        one zone that remains alone included
@@ -98,8 +98,8 @@ module _ {i : Handed-in} (c : Plan-call i) {s t q p need : ℕ} (e : c .answer �
   pub put-out-plan : put-out c need ≡ map link-arc (plan (network i))
   put-out-plan = ap₂ arcs-of (plan-fronts .0) (plan-fronts .1) ∙ columns-arcs (plan (network i))
 
-  -- with them every zone that remains reaches every zone that remains, no smaller set does that, they are no more than
-  -- the zones that remain, and each joins two distinct ones
+  -- with them every zone that remains reaches every other, no smaller set does that, they are no more than the zones
+  -- that remain, and each joins two distinct ones
   pub put-out-smallest : Smallest i (put-out c need) need
   put-out-smallest = plan-smallest (plan-accepts c e) put-out-plan (plan-counts .need-is)
 

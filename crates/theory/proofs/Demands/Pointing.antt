@@ -43,8 +43,8 @@ use Rattle.theory.proofs.Files.Listing.{remains-some}
 use Rattle.theory.proofs.Files.Numbering.{ends-before, begins-count, Counted-to}
 use Rattle.theory.proofs.Files.Pointing.{Tail-at, Head-at, zones-wrong, Points, file-points}
 use Rattle.theory.proofs.Files.Pointing.{file-counted}
-use Rattle.theory.proofs.Demands.Calls.{Remains, tests-of, Handed-in, Read-call, Write-call, Strong-call, Reach-call}
-use Rattle.theory.proofs.Demands.Calls.{Skeleton-call, Plan-call, Records-call}
+use Rattle.theory.proofs.Demands.Calls.{Remains, tests-of, Handed-in, Read-call, Write-call, Strong-call}
+use Rattle.theory.proofs.Demands.Calls.{Reach-call, Skeleton-call, Plan-call, Records-call}
 use Rattle.theory.proofs.Demands.Answers.{read-refused-when, write-refused-when, strong-refused-when}
 use Rattle.theory.proofs.Demands.Answers.{reach-refused-when, skeleton-refused-when, plan-refused-when}
 use Rattle.theory.proofs.Demands.Answers.{records-refused-when}

@@ -1,7 +1,8 @@
 -- Demand 2, of the calls: questions of strength and reach get a yes exactly when it is so.
 --   strong-says   STRONG that ends with DONE says yes exactly when every zone reaches every zone, and else no
 --   reach-says    REACH that ends with DONE says yes exactly when the one zone reaches the other, and else no
--- The answer is the rules' test, and the test decides. Assumes nothing.
+-- The zones are those that remain (`network`, Demands/Calls). The answer is the rules' test, and the test decides.
+-- Assumes nothing.
 use Prim.Native.Nat.{ℕ}
 use mathlib.Core.Path.{_≡_, sym, _∙_}
 use mathlib.Core.Logic.{_↔_}
@@ -28,13 +29,13 @@ test-says b t e sound complete = record {
 }
 
 module _ {i : Handed-in} where
-  -- STRONG says yes exactly when every zone reaches every zone
+  -- STRONG says yes exactly when every zone that remains reaches every other
   pub strong-says : (c : Strong-call i) {b : Bool} → c .answer ≡ StrongAnswer.Done b → Says b (Strong (network i))
   strong-says c {b} e =
       let proper : Proper (network i) = accepted-proper i (strong-accepts c e) in
       test-says b (strong (network i)) (strong-done-when c .0 e .1) (strong-sound (network i)) (strong-complete proper)
 
-  -- REACH says yes exactly when zone x reaches zone y
+  -- REACH says yes exactly when zone x reaches zone y; both remain (`reach-asked`)
   pub reach-says : {x y : ℕ} (c : Reach-call i x y) {b : Bool} → c .answer ≡ ReachAnswer.Done b
       → Says b (Reach (network i) x y)
   reach-says {x} {y} c {b} e =

@@ -4,8 +4,8 @@
 --   records-front           the first need records are the plan's
 --   records-front-columns         and, column by column, its starts, ends and whys
 --   records-out c need      the links that it put out, as arcs
---   records-smallest        with them every zone that remains reaches every zone that remains, no smaller set does that,
---                           they are no more than the zones that remain, and each joins two distinct ones
+--   records-smallest        with them every zone that remains reaches every other, no smaller set does that, they are
+--                           no more than the zones that remain, and each joins two distinct ones
 --   records-spare           none of them is at a withdrawn zone
 --   records-none            an already strong network gets no link, and the records stay as they came
 --   records-one-zone        one zone that remains alone included
@@ -103,8 +103,8 @@ module _ {i : Handed-in} (c : Records-call i) {s t q p need : ℕ} (e : c .answe
   pub records-out-plan : records-out c need ≡ map link-arc (plan (network i))
   records-out-plan = ap₂ arcs-of (records-front-columns .0) (records-front-columns .1) ∙ columns-arcs (plan (network i))
 
-  -- with them every zone that remains reaches every zone that remains, no smaller set does that, they are no more than
-  -- the zones that remain, and each joins two distinct ones
+  -- with them every zone that remains reaches every other, no smaller set does that, they are no more than the zones
+  -- that remain, and each joins two distinct ones
   pub records-smallest : Smallest i (records-out c need) need
   records-smallest = plan-smallest (records-accepts c e) records-out-plan (records-counts .need-is)
 

@@ -1,6 +1,6 @@
--- Demand 3, of the calls: each accepted network has a skeleton; two whose withdrawn numbers are equal have skeleton files
--- equal byte for byte exactly when they have the same zone count and the same zones reach the same zones; and a
--- skeleton's own skeleton is itself. A skeleton keeps its network's withdrawn numbers.
+-- Demand 3, of the calls: each accepted network has a skeleton, which keeps its withdrawn numbers; two networks whose
+-- withdrawn numbers are equal have skeleton files equal byte for byte exactly when they have the same zone count and
+-- the same zones reach the same zones; and a skeleton's own skeleton is itself.
 --   skeleton-left c k       the network that SKELETON left, where it said that it has k arcs
 --   skeleton-leaves         its arcs are the skeleton of the network
 --   skeleton-left-accepted  it is a network that a call accepts, with no more arcs
@@ -20,18 +20,16 @@ use mathlib.Core.List.{List, List·Memᴰ as In}
 use lib.ListN.{length, take, length-map}
 use Rattle.rules.specs.declared.WriteAnswer.{WriteAnswer}
 use Rattle.rules.specs.declared.SkeletonAnswer.{SkeletonAnswer}
-use Rattle.rules.specs.Network.{Arc, remaining, Proper, arc-tails, arc-heads, Reach}
+use Rattle.rules.specs.Network.{Arc, remaining, arc-tails, arc-heads, Reach}
 use Rattle.rules.specs.Skeleton.{skeleton, skeleton-of}
-use Rattle.rules.specs.File.{Given}
-use Rattle.rules.specs.Calls.{arcs-of, handed, handed-with}
+use Rattle.rules.specs.File.{file-bytes}
+use Rattle.rules.specs.Calls.{arcs-of, handed-with}
 use Rattle.theory.proofs.Ground.ArcLists.{arcs-length, arcs-split}
 use Rattle.theory.proofs.Ground.Storing.{over-front}
 use Rattle.theory.proofs.Skeletons.SkeletonLaws.{skeleton-ends}
-use Rattle.theory.proofs.Skeletons.SkeletonSame.{skeleton-agree, skeleton-decides, skeleton-skeleton}
+use Rattle.theory.proofs.Skeletons.SkeletonSame.{skeleton-skeleton}
 use Rattle.theory.proofs.Skeletons.SkeletonLeast.{skeleton-short}
-use Rattle.theory.proofs.Files.FileLaws.{same-file-same-network}
-use Rattle.theory.proofs.Files.SkeletonFile.{skeleton-given, skeleton-accepted}
-use Rattle.theory.proofs.Files.Accepting.{fine-with-bridge}
+use Rattle.theory.proofs.Files.SkeletonFile.{skeleton-given, skeleton-accepted, skeleton-files}
 use Rattle.theory.proofs.Demands.Calls.{as-given, Handed-in, network, Remains, Is-accepted, front-of}
 use Rattle.theory.proofs.Demands.Calls.{Write-call, Skeleton-call}
 use Rattle.theory.proofs.Demands.Answers.{skeleton-done-when}
@@ -66,12 +64,10 @@ module _ {i : Handed-in} (c : Skeleton-call i) {k : ℕ} (e : c .answer ≡ Skel
   unfolding handed-with
   skeleton-network = λ j. record { zones = network i .zones; arcs = skeleton-leaves j }
 
-  -- and as a file holds it: withdrawn zones add nothing to a skeleton
-  skeleton-handed : as-given (skeleton-left c k) ≡ skeleton-given (as-given i)
-  unfolding handed
-  skeleton-handed =
-      let arcs = skeleton-leaves ∙ fine-with-bridge _ _ _ _ (skeleton-accepts c e) .skeleton-is in
-      λ j. record { zones = i .zones; arcs = arcs j }
+  -- and as a file holds it
+  skeleton-handed : as-given (skeleton-left c k) ≡ skeleton-given (as-given i) (i .gone)
+  unfolding handed-with
+  skeleton-handed = λ j. record { zones = i .zones; arcs = skeleton-leaves j }
 
   -- both ends of each arc remain
   skeleton-remains : (x : Arc) → In x (arcs-of (skeleton-left c k .tails) (skeleton-left c k .heads))
@@ -93,7 +89,7 @@ module _ {i : Handed-in} (c : Skeleton-call i) {k : ℕ} (e : c .answer ≡ Skel
               paired =
                   ap length tails-left ∙ length-map (skeleton (network i)) _
                   ∙ sym (ap length heads-left ∙ length-map (skeleton (network i)) _);
-              accepted = rw skeleton-handed (skeleton-accepted _ (a .fine .accepted));
+              accepted = rw skeleton-handed (skeleton-accepted (as-given i) (i .gone) (a .fine .accepted) (a .free));
             };
         ascending = a .ascending;
         below = a .below;
@@ -130,33 +126,26 @@ pub record Skeleton-file (i : Handed-in) : Type 0 where
 abbrev pub skeleton-bytes : {i : Handed-in} → Skeleton-file i → List ℕ
 skeleton-bytes f = file-left (f .put) (f .size)
 
--- the zones of i reach in j what they reach in i
+-- they are the file of the rules' skeleton
+bytes-are : {i : Handed-in} (f : Skeleton-file i)
+    → skeleton-bytes f ≡ file-bytes (skeleton-given (as-given i) (i .gone))
+bytes-are f = write-leaves (f .put) (f .size-said) ∙ ap file-bytes (skeleton-handed (f .made) (f .arcs-said))
+
+-- the zones of i that remain reach in j what they reach in i
 abbrev pub Same-reach : Handed-in → Handed-in → Type 0
 Same-reach i j = (a b : ℕ) → Remains i a → Remains i b → Reach (network i) a b ↔ Reach (network j) a b
 
--- two networks whose withdrawn numbers are equal have skeleton files equal byte for byte exactly when they have the same
--- zone count and the same zones reach the same zones
+-- two networks whose withdrawn numbers are equal have skeleton files equal byte for byte exactly when they have the
+-- same zone count and the same zones reach the same zones
 pub skeleton-files-equal : {i j : Handed-in} → i .gone ≡ j .gone → (f : Skeleton-file i) (g : Skeleton-file j)
     → (skeleton-bytes f ≡ skeleton-bytes g) ↔ ((i .zones ≡ j .zones) × Same-reach i j)
 unfolding handed-with
 skeleton-files-equal {i} {j} gone f g =
-    let P = accepted-proper i (skeleton-accepts (f .made) (f .arcs-said)) in
-    let Q = accepted-proper j (skeleton-accepts (g .made) (g .arcs-said)) in
-    let file-f = write-leaves (f .put) (f .size-said) in
-    let file-g = write-leaves (g .put) (g .size-said) in
-    let arcs-f = skeleton-leaves (f .made) (f .arcs-said) in
-    let arcs-g = skeleton-leaves (g .made) (g .arcs-said) in
-    let equal =
-    same-file-same-network _ _ (skeleton-left-accepted (f .made) (f .arcs-said) .fine .accepted)
-    (skeleton-left-accepted (g .made) (g .arcs-said) .fine .accepted) in (
-      λ e.
-          let same = equal .0 (sym file-f ∙ e ∙ file-g) in
-          let zones : i .zones ≡ j .zones = ap (λ (h : Given). h .zones) same in
-          let arcs = sym arcs-f ∙ ap (λ (h : Given). h .arcs) same ∙ arcs-g in
-          (zones, skeleton-decides P Q (ap₂ remaining zones gone) arcs),
-      λ s.
-          let arcs = arcs-f ∙ skeleton-agree P Q (ap₂ remaining (s .0) gone) (s .1) ∙ sym arcs-g in
-          file-f ∙ equal .1 (λ k. record { zones = s .0 k; arcs = arcs k }) ∙ sym file-g,
+    let a = skeleton-accepts (f .made) (f .arcs-said) in
+    let b = skeleton-accepts (g .made) (g .arcs-said) in
+    let equal = skeleton-files _ _ gone (a .fine .accepted) (b .fine .accepted) (a .free) (b .free) in (
+      λ e. equal .0 (sym (bytes-are f) ∙ e ∙ bytes-are g),
+      λ s. bytes-are f ∙ equal .1 s ∙ sym (bytes-are g),
     )
 
 -- SKELETON called on what SKELETON left, with the same withdrawn numbers

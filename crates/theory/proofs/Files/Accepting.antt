@@ -223,4 +223,5 @@ pub remain-question : (n m : ℕ) (gone : List ℕ) {a b : ℕ} → In a (remain
 remain-question n m gone {a} {b} i j =
     let p = remaining-in n gone i in
     let q = remaining-in n gone j in
-    pass _ _ (lt-leb n a (p .0)) (pass _ _ (lt-leb n b (q .0)) (pass (listed gone a || listed gone b) _ (rw (p .1, q .1)) refl))
+    pass _ _ (lt-leb n a (p .0))
+    (pass _ _ (lt-leb n b (q .0)) (pass (listed gone a || listed gone b) _ (rw (p .1, q .1)) refl))

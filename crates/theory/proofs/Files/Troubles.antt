@@ -7,7 +7,7 @@
 --   passed-append, append-passed   one list after another: each test of both passes
 --   goes-on, stops               what a test that does not fail, and one that fails, makes of the trouble
 --   passes, both-pass            the same said of the first test, and of two lists, by their troubles
---   fails-or, either-fails       where there is a trouble: the first test says it, or those after it do; and so of lists
+--   fails-or, either-fails       where there is a trouble: the first test, or list, says it, or those after it do
 --   none-not-some                there is a trouble or none
 -- Each goes by cases on whether the first test fails. Assumes nothing.
 use Prim.Native.Nat.{ℕ}
