@@ -16,8 +16,8 @@ const TOP: f64 = 70.0;
 const BOTTOM: f64 = 490.0;
 
 /// One for each family; told apart also by those who see few colours.
-const COLOURS: [&str; 8] =
-    ["#000000", "#e69f00", "#56b4e9", "#009e73", "#0072b2", "#d55e00", "#cc79a7", "#8a8a8a"];
+const COLOURS: [&str; 9] =
+    ["#000000", "#e69f00", "#56b4e9", "#009e73", "#0072b2", "#d55e00", "#cc79a7", "#8a8a8a", "#6a3d9a"];
 
 /// One for each size.
 const RADII: [f64; 3] = [2.5, 4.0, 5.5];

@@ -1,7 +1,7 @@
 -- Document 02, No. 2, of the calls: with no number withdrawn every call is as it was before.
 --   old-network-tests, old-question-tests   document 01's tests, with No. 1's HEAD: no LIST, NONE and GONE
 --   network-tests-none   with the empty list a network has the trouble that it had, whatever tests follow
---   handed-none          and the network that the calls speak of is the one that it was
+--   handed-none          (Accepting) and the network that the calls speak of is the one that it was
 --   X-as-before          so each call's answer, and what it leaves, are those of the tests and the network before
 -- LIST has no number to be said of, GONE is said of nothing, and NONE only of no zones at all, of which ZONES is said
 -- before. READ has no list. Assumes nothing.
@@ -27,8 +27,8 @@ use Rattle.rules.specs.Calls.{write-trouble, strong-trouble, reach-trouble, ske
 use Rattle.rules.specs.Calls.{records-trouble}
 use Rattle.rules.specs.Promises.{Write-promise, Strong-promise, Reach-promise, Skeleton-promise, Plan-promise}
 use Rattle.rules.specs.Promises.{Records-promise}
-use Rattle.theory.proofs.Withdrawn.Remaining.{network-none}
 use Rattle.theory.proofs.Files.Troubles.{first-trouble-append}
+use Rattle.theory.proofs.Files.Accepting.{handed-none}
 
 -- arc by arc, from index i on, as it was: RANGE for the tail, HEAD for the head, SELF
 abbrev pub old-arcs-tests : ℕ → ℕ → List Arc → List Test
@@ -87,11 +87,6 @@ asked-tests-none n ts hs m a b more =
     network-tests-none n ts hs (question-tests n m (listed []) a b ++ more)
     ∙ first-trouble-append (old-network-tests n ts hs) (question-tests n m (listed []) a b ++ more)
     ∙ sym (first-trouble-append (old-network-tests n ts hs) (old-question-tests n m a b ++ more))
-
--- the network that the calls speak of is the one that it was: every number below the zone count is a zone
-pub handed-none : (n : ℕ) (ts hs : List ℕ) → handed-with n ts hs [] ≡ handed n ts hs
-unfolding handed handed-with
-handed-none n ts hs = network-none n (arcs-of ts hs)
 
 -- each call on a network: what its promise with the empty list says is what it said before
 module _ (n : ℕ) (ts hs : List ℕ) where
