@@ -48,7 +48,7 @@ fn reached(zones: usize, tails: &[u16], heads: &[u16], gone: &[u16], from: u16, 
         to as usize,
         &mut work,
     );
-    let kept = lent::kept(&work, zones, tails.len());
+    let kept = lent::kept_of(&work, zones, tails.len());
     outcome::questioned(answer, from, to, kept)
 }
 

@@ -34,7 +34,7 @@ pub fn by_lists(zones: usize, tails: &[u16], heads: &[u16], gone: &[u16]) -> Out
         &mut why,
         &mut work,
     );
-    let kept = lent::kept(&work, zones, tails.len());
+    let kept = lent::kept_of(&work, zones, tails.len());
     let c = Columns {
         from: from,
         to: to,
@@ -107,7 +107,7 @@ fn columns(links: [Link; 10]) -> Columns {
 pub fn by_records(zones: usize, tails: &[u16], heads: &[u16], gone: &[u16]) -> Outcome {
     let mut work = [lent::SEVEN; 170];
     let asked = ask_records(zones, tails, heads, gone, &mut work);
-    let kept = lent::kept(&work, zones, tails.len());
+    let kept = lent::kept_of(&work, zones, tails.len());
     let answer = asked.answer;
     let links = asked.links;
     outcome::planned(answer, columns(links), why_number(Why::Back), kept)

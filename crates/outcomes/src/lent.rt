@@ -54,7 +54,7 @@ pub struct Kept {
 }
 
 // How the work memory is kept, of a network of so many zones and arcs.
-pub fn kept(work: &[u16], zones: usize, arcs: usize) -> Kept {
+pub fn kept_of(work: &[u16], zones: usize, arcs: usize) -> Kept {
     let result = cleared(work, zones, arcs);
     let refusal = holds(work, 0, work.len(), SEVEN);
     Kept {
