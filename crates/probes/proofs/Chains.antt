@@ -4,6 +4,7 @@
 --   found-stays     a trouble that was found before is handed on
 --   found-goes-on   where none was found before, the tests decide
 --   found-says      what was found is the first trouble of the tests
+--   found-none      where none was found, none was found before, and the tests have none
 --   found-same      lists of tests that have the same first trouble where none was found before find the same
 --   found-told      so do two tests of one kind and place that fail for the same thing
 -- Assumes nothing.
@@ -49,6 +50,15 @@ found-goes-on e f = record { first = rw e (f .first) }
 -- What was found is the first trouble of the tests.
 pub found-says : {r s : Tested} {xs : List Test} → Found-by xs r → r ≡ s → first-trouble xs ≡ tested-trouble s
 found-says f e = sym (f .first) ∙ ap tested-trouble e
+
+-- Where none was found, none was found before, and the tests have none.
+pub found-none : {b r : Tested} {xs : List Test} → Found-after b xs r → tested-trouble r ≡ none
+    → (tested-trouble b ≡ none) × (first-trouble xs ≡ none)
+found-none {b} {r} {xs} f e = go (tested-trouble b) (sym (f .first) ∙ e)
+  where
+    go : (t : Option Trouble) → or-else t (first-trouble xs) ≡ none → (t ≡ none) × (first-trouble xs ≡ none)
+    go none e = (refl, e)
+    go (some t) e = (cc, cc)
 
 -- Where none was found before, two lists of tests have the same first trouble: what one finds, the other does.
 pub found-same : {b r : Tested} {xs ys : List Test}

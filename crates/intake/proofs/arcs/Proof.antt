@@ -1,25 +1,33 @@
 -- `arcs` meets its contract. The loop's invariant: the first trouble of all arcs is that of the arcs from `i`
 -- on. Assumes nothing.
-use Prim.Native.Nat.{_≤_, _-_}
+use Prim.Native.Nat.{ℕ, _≤_, _-_}
 use native.Mathlib.Omega.{arith}
 use mathlib.Core.Path.{_≡_, refl, sym, _∙_}
-use lib.ListN.{length}
+use mathlib.Core.List.{List}
+use lib.ListN.{length, getD}
 use borrow.Author.Needs.{needs}
+use Rattle.zoneset.specs.Held.{held}
 use Rattle.probes.proofs.Chains.{found-says}
 use Rattle.intake.proofs.Along.{rest, rest-fine, rest-bad, rest-none}
-use Rattle.rules.specs.Calls.{first-trouble}
+use Rattle.rules.specs.Network.{_⟶_}
+use Rattle.rules.specs.Calls.{Test, first-trouble, arc-tests}
 use Rattle.intake.proofs.arcs.Statement.{statement}
 use Rattle.intake.proofs.arcs.Tie as tie
 
 abbrev Inv-loop : tie.InvT-loop
-Inv-loop zones tails heads i₀ i =
-    (i ≤ length tails) × (first-trouble (rest zones 0 tails heads) ≡ first-trouble (rest zones i tails heads))
+Inv-loop zones tails heads gone i₀ i =
+    (i ≤ length tails)
+    × (first-trouble (rest zones (held gone) 0 tails heads) ≡ first-trouble (rest zones (held gone) i tails heads))
 
 abbrev μ-loop : tie.MeasureT-loop
-μ-loop zones tails heads i₀ i = length tails - i
+μ-loop zones tails heads gone i₀ i = length tails - i
 
 loop-holds : tie.Need-loop-holds Inv-loop μ-loop
 loop-holds c = (search needs, refl)
+
+-- the tests of the arc at i
+abbrev arc-here : ℕ → List ℕ → ℕ → List ℕ → List ℕ → List Test
+arc-here n gone i ts hs = arc-tests n i (getD ts i 0 ⟶ getD hs i 0) (held gone)
 
 mul-arc : tie.Need-mul-arc Inv-loop μ-loop
 mul-arc c = search needs
@@ -43,11 +51,11 @@ returns : tie.Need-returns Inv-loop μ-loop
 returns c =
     let a = c .before .before .before .before .before .before .before .before .before .before .args in
     let l = c .before .before .before .before .before .before .before .loop in
-    let e = found-says (c .before .before .before .arc .ensures) (c .before .r .given .1) in
+    let e = found-says {xs = arc-here (a .zones) (a .gone .now) (l .i) (a .tails .now) (a .heads .now)} (c .before .before .before .arc .ensures) (c .before .r .given .1) in
     record {
       first =
           sym
-          (l .inv .1 ∙ rest-bad (a .zones) (l .i) (a .tails .now) (a .heads .now) (omega arith) (omega arith) e);
+          (l .inv .1 ∙ rest-bad (a .zones) (held (a .gone .now)) (l .i) (a .tails .now) (a .heads .now) (omega arith) (omega arith) e);
     }
 
 enum-told : tie.Need-enum-told Inv-loop μ-loop
@@ -63,16 +71,16 @@ loop-again : tie.Need-loop-again Inv-loop μ-loop
 loop-again c =
     let a = c .before .before .before .before .before .before .before .before .before .args in
     let l = c .before .before .before .before .before .before .loop in
-    let e = found-says (c .before .before .arc .ensures) (c .enum-told .given .1) in (
+    let e = found-says {xs = arc-here (a .zones) (a .gone .now) (l .i) (a .tails .now) (a .heads .now)} (c .before .before .arc .ensures) (c .enum-told .given .1) in (
       search needs,
-      l .inv .1 ∙ rest-fine (a .zones) (l .i) (a .tails .now) (a .heads .now) (omega arith) (omega arith) e,
+      l .inv .1 ∙ rest-fine (a .zones) (held (a .gone .now)) (l .i) (a .tails .now) (a .heads .now) (omega arith) (omega arith) e,
     )
 
 returns-2 : tie.Need-returns-2 Inv-loop μ-loop
 returns-2 c =
     let a = c .before .before .before .before .args in
     let l = c .before .loop in
-    record { first = sym (l .inv .1 ∙ rest-none (a .zones) (l .i) (a .tails .now) (a .heads .now) (omega arith)) }
+    record { first = sym (l .inv .1 ∙ rest-none (a .zones) (held (a .gone .now)) (l .i) (a .tails .now) (a .heads .now) (omega arith)) }
 
 pub arcs-spec : {M : Type 1} → statement M
 arcs-spec =

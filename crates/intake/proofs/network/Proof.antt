@@ -1,86 +1,87 @@
--- `network` meets its contract: the tests before the arcs are those of the rules, one after the other, and then come
--- the arcs. Assumes nothing.
-use mathlib.Core.Path.{subst}
-use mathlib.Core.List.{[], _∷_}
-use mathlib.Core.Bool.{Bool, not}
-use lib.Dec.{eqb}
-use lib.ListN.{length}
+-- `network` meets its contract: the tests before the arcs come first, and where they find nothing the withdrawn numbers
+-- can be a set, with which the arcs' tests are those of the rules. Assumes nothing.
+use mathlib.Core.Path.{_≡_, refl}
+use mathlib.Core.Option.{none}
 use borrow.Author.Needs.{needs}
-use Rattle.rules.specs.declared.TroubleKind.the-variants.{Pair, Zones, Arcs}
-use Rattle.rules.specs.File.{zones-bad, arcs-bad}
-use borrow.Author.Tests.{eqb-true, not-false}
-use Rattle.rules.specs.Calls.{test, arcs-of}
-use Rattle.probes.specs.Tested.{Found-by, Found-after}
-use Rattle.probes.proofs.Chains.{found-on, found-stays, found-goes-on, found-says}
-use Rattle.theory.proofs.Files.Troubles.{passes}
+use Rattle.rules.specs.Calls.{first-trouble, arcs-of}
+use Rattle.theory.proofs.Files.Troubles.{none-not-some}
+use Rattle.probes.proofs.Chains.{found-stays, found-goes-on, found-says}
+use Rattle.intake.specs.Taken.{first-tests}
+use Rattle.intake.proofs.Leading.{network-told, first-paired, first-below, arcs-told}
 use Rattle.intake.proofs.network.Statement.{statement}
 use Rattle.intake.proofs.network.Tie as tie
 
--- the tests before the arcs were made
+-- the tests before the arcs found nothing
 abbrev Here : Type 0
-Here = tie.After-test3
+Here = tie.After-enum-told
 
 -- the function's entry
 abbrev entry : Here → tie.Start
 entry c = c .before .before .before .before .before .before
 
--- they find what the rules' tests before the arcs find
-counted-here : (c : Here) → Found-by
-    (test (not (eqb (length (entry c .args .tails .now)) (length (entry c .args .heads .now)))) Pair 0
-    ∷ test (zones-bad (entry c .args .zones)) Zones 0
-    ∷ test (arcs-bad (length (entry c .args .tails .now))) Arcs 0
-    ∷ [])
-    (c .test3 .result)
-counted-here c =
-    let d = c .before .before in
-    let zoned =
-    subst (λ (b : Bool). Found-after (d .test .result) (test b Zones 0 ∷ []) (c .before .test2 .result))
-    (d .before .zones-bad .ensures) (c .before .test2 .ensures) in
-    found-on (found-on (d .test .ensures) zoned) (c .test3 .ensures)
+-- so they have no trouble
+none-here : (c : Here) →
+    let a = entry c .args in first-trouble (first-tests (a .zones) (a .tails .now) (a .heads .now) (a .gone .now)) ≡ none
+none-here c = found-says (c .before .before .first-tests .ensures) (c .enum-told .given .1)
 
-zones-bad-requires : tie.Need-zones-bad-requires
-zones-bad-requires c κs = search needs
+fill-requires : tie.Need-fill-requires
+fill-requires c κs =
+    let a = entry c .args in
+    first-below (a .zones) (a .tails .now) (a .heads .now) (a .gone .now) (none-here c)
 
-test-requires : tie.Need-test-requires
-test-requires c κs = search needs
+arcs-requires : tie.Need-arcs-requires
+arcs-requires c κs =
+    let h = c .before .before in
+    let a = entry h .args in
+    first-paired (a .zones) (a .tails .now) (a .heads .now) (a .gone .now) (none-here h)
 
-test-requires-2 : tie.Need-test-requires-2
-test-requires-2 c κs = search needs
+returns-2 : tie.Need-returns-2
+returns-2 c =
+    let f = c .before .before in
+    let h = f .before in
+    let a = entry h .args in
+    let filled = f .fill .ensures in
+    let told = arcs-told (a .zones) (arcs-of (a .tails .now) (a .heads .now)) (a .gone .now) _ filled (c .arcs .ensures) in
+    record {
+      found-by =
+          network-told (a .zones) (a .tails .now) (a .heads .now) (a .gone .now)
+          (h .before .before .first-tests .ensures) (found-goes-on (h .enum-told .given .1) told);
+      set = λ e. filled;
+    }
 
-test-requires-3 : tie.Need-test-requires-3
-test-requires-3 c κs = search needs
+returns : tie.Need-returns
+returns c =
+    let k = c .before .before in
+    let f = k .before .before in
+    let a = f .before .before .before .before .args in
+    record {
+      found-by =
+          network-told (a .zones) (a .tails .now) (a .heads .now) (a .gone .now)
+          (f .first-tests .ensures) (found-stays _ (k .counted .given .1));
+      set = λ e. absurd (none-not-some e refl);
+    }
+
+first-tests-requires : tie.Need-first-tests-requires
+first-tests-requires c κs = search needs
 
 enum-known-counted : tie.Need-enum-known-counted
 enum-known-counted c = search needs
 
-returns : tie.Need-returns
-unfolding arcs-of
-returns c = found-on (counted-here (c .before .before .before)) (found-stays _ (c .before .counted .given .1))
+empty-requires : tie.Need-empty-requires
+empty-requires c κs = search needs
 
 enum-told : tie.Need-enum-told
 enum-told c = search needs
-
-arcs-requires : tie.Need-arcs-requires
-arcs-requires c κs =
-    let p = passes _ _ _ (found-says (counted-here (c .before .before)) (c .enum-told .given .1)) in
-    eqb-true _ _ (not-false _ (p .0))
-
-returns-2 : tie.Need-returns-2
-unfolding arcs-of
-returns-2 c =
-    let d = c .before in
-    found-on (counted-here (d .before .before)) (found-goes-on (d .enum-told .given .1) (c .arcs .ensures))
 
 pub network-spec : {M : Type 1} → statement M
 network-spec =
     tie.close
     (tie.spec
-    zones-bad-requires
-    test-requires
-    test-requires-2
-    test-requires-3
+    first-tests-requires
     enum-known-counted
+    empty-requires
     returns
     enum-told
+    fill-requires
     arcs-requires
     returns-2)

@@ -1,0 +1,2 @@
+-- What the contracts of taking a network in cite.
+pub mod Taken
