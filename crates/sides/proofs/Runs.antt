@@ -2,22 +2,19 @@
 --   given-runs    s ≤ t: the side as given;   turned-runs   s > t: the side turned round
 -- The idea: the rule runs on the network itself, or on the network turned round, and its links are the plan, or are it
 -- turned back. Assumes nothing.
-use mathlib.Core.Path.{_≡_, refl, sym, ap, _∙_}
+use mathlib.Core.Path.{_≡_}
 use mathlib.Core.Bool.{true, false}
-use mathlib.Core.List.{List}
 use Prim.Native.Nat.{ℕ, _≤_, _<_}
 use native.Mathlib.Omega.{arith}
 use lib.ListN.{length}
 use borrow.Author.Tests.{le-leb, lt-leb}
-use Rattle.rules.specs.Network.{Network, network-of}
+use Rattle.rules.specs.Network.{Network}
 use Rattle.rules.specs.Components.{sources, sinks}
 use Rattle.rules.specs.Plan.{is-upright, upright-plan}
-use Rattle.rules.specs.Calls.{arcs-of}
 use Rattle.theory.proofs.Planning.PlanStrong.{plan-of-upright, plan-of-turned, upright-same, upright-other}
 use Rattle.workmap.specs.declared.Map.{Map}
 use Rattle.workmap.specs.declared.Side.{Side}
 use Rattle.sides.specs.Sides.{As-given, Turned-round, Rule-side}
-use Rattle.sides.proofs.Turning.{network-turned}
 
 module _ (m : Map) (s t : ℕ) (d : Side) where
   -- no more sources than sinks
@@ -37,14 +34,7 @@ module _ (m : Map) (s t : ℕ) (d : Side) where
         roomy = G .roomy;
         zones = G .zones;
         below = G .below;
-        stands = λ w ts hs B e f.
-            let N : Network = network-of (m .rows .zones) (arcs-of ts hs) in (
-              arcs-of ts hs,
-              (
-                G .stands w ts hs B,
-                ap (λ (k : ℕ). network-of k (arcs-of ts hs)) (G .zones) ∙ sym (upright-same N (is-given N h e f)),
-              ),
-            );
+        stands = λ w N B e f. rw (upright-same N (is-given N h e f)) (G .stands w N B);
         links = λ w N weak e f C.
             let u = is-given N h e f in
             rw (plan-of-upright N weak u) (G .columns w (upright-plan N) (rw (upright-same N u) at C));
@@ -57,16 +47,7 @@ module _ (m : Map) (s t : ℕ) (d : Side) where
         roomy = G .roomy;
         zones = G .zones;
         below = G .below;
-        stands = λ w ts hs B e f.
-            let N : Network = network-of (m .rows .zones) (arcs-of ts hs) in (
-              arcs-of hs ts,
-              (
-                G .stands w ts hs B,
-                ap (λ (k : ℕ). network-of k (arcs-of hs ts)) (G .zones)
-                    ∙ sym (network-turned (m .rows .zones) ts hs)
-                    ∙ sym (upright-other N (is-turned N h e f)),
-              ),
-            );
+        stands = λ w N B e f. rw (upright-other N (is-turned N h e f)) (G .stands w N B);
         links = λ w N weak e f C.
             let u = is-turned N h e f in
             rw (plan-of-turned N weak u) (G .columns w _ (rw (upright-other N u) at C));

@@ -1,22 +1,20 @@
 -- A network turned round, as it is handed in with heads and tails exchanged; and links turned back.
---   network-turned              the network of heads and tails exchanged is the network turned round
---   stands-turned               it stands in the turned rows, with sources and sinks exchanged
+--   handed-turned               the arcs of heads and tails exchanged are those of the network turned round
+--   stands-turned               a network turned round stands in the turned rows, with sources and sinks exchanged
 --   turned-starts, turned-ends, turned-whys   the columns of links turned round
 --   columns-turned              where starts and ends are put in each other's places, the links stand turned back
 -- Each by going through the lists. Assumes nothing.
-use mathlib.Core.Path.{_≡_, refl, sym, ap}
+use mathlib.Core.Path.{_≡_, refl, ap}
 use mathlib.Core.List.{List, [], _∷_, map, zipWith}
 use Prim.Native.Nat.{ℕ, _+_, _≤_}
+use native.Mathlib.Omega.{arith}
 use lib.ListN.{length}
-use Rattle.rules.specs.Network.{Arc, _⟶_, Network, network-of, Proper}
-use Rattle.rules.specs.Components.{sources, sinks, alone}
+use Rattle.rules.specs.Network.{Arc, _⟶_, Network}
 use Rattle.rules.specs.Plan.{Link, why-number, turned, turned-link}
-use Rattle.rules.specs.Calls.{arcs-of}
-use Rattle.theory.proofs.Ground.Ascending.{network-proper}
-use Rattle.theory.proofs.Reaching.Turned.{turned-sources, turned-sinks, turned-alone}
+use Rattle.rules.specs.Calls.{arcs-of, handed-with}
+use Rattle.theory.proofs.Reaching.Turned.{turned-proper, turned-sources, turned-sinks, turned-alone}
 use Rattle.memory.specs.Regions.{Holds}
-use Rattle.arranged.specs.Arranged.{Between, Arranged-at}
-use Rattle.arranged.proofs.ArcRows.{between-turned}
+use Rattle.arranged.specs.Arranged.{Arranged-at}
 use Rattle.workmap.specs.declared.RowsAt.{RowsAt}
 use Rattle.workmap.specs.declared.ListsAt.{ListsAt}
 use Rattle.workmap.specs.declared.LinksAt.{LinksAt}
@@ -30,10 +28,10 @@ arcs-exchanged [] (h ∷ hs) = refl
 arcs-exchanged (t ∷ ts) [] = refl
 arcs-exchanged (t ∷ ts) (h ∷ hs) = ap {B = List Arc} (λ es. (h ⟶ t) ∷ es) (arcs-exchanged ts hs)
 
--- the network of heads and tails exchanged is the network turned round
-pub network-turned : (n : ℕ) (ts hs : List ℕ) → turned (network-of n (arcs-of ts hs)) ≡ network-of n (arcs-of hs ts)
-unfolding turned
-network-turned n ts hs = ap (λ (es : List Arc). network-of n es) (arcs-exchanged ts hs)
+-- the arcs of heads and tails exchanged are those of the network turned round
+pub handed-turned : (n : ℕ) (ts hs gone : List ℕ) → turned (handed-with n ts hs gone) .arcs ≡ arcs-of hs ts
+unfolding turned handed-with
+handed-turned n ts hs gone = arcs-exchanged ts hs
 
 -- links turned round start where the links end
 pub turned-starts : (ls : List Link)
@@ -55,30 +53,21 @@ unfolding turned-link
 turned-whys [] = refl
 turned-whys (l ∷ ls) = ap {B = List ℕ} (λ xs. why-number (l .why) ∷ xs) (turned-whys ls)
 
--- a network whose arcs are between zones is proper
-pub between-proper : (n : ℕ) (es : List Arc) → Between n es → Proper (network-of n es)
-between-proper n es B = network-proper n es (λ a b m. (B .tails m, B .heads m))
-
--- the network stands turned round in the turned rows, with sources and sinks exchanged
-pub stands-turned : {w : List ℕ} (ts hs : List ℕ) {R T : RowsAt} {A : ListsAt} → T .zones ≡ R .zones →
-    Side-stands w R A (arcs-of ts hs) → Arranged-at w T (arcs-of hs ts) → T .rows + length (arcs-of hs ts) ≤ length w →
-    Side-stands w T (record { sources = A .sinks; sinks = A .sources; alone = A .alone }) (arcs-of hs ts)
-stands-turned ts hs {R} {T} e S turns fits =
-    let n = R .zones in
-    let P : Proper (network-of n (arcs-of ts hs)) = between-proper n (arcs-of ts hs) (S .between) in
-    let back = network-turned n ts hs in
-    let M : Network = network-of n (arcs-of hs ts) in
-    let N : Network = network-of n (arcs-of ts hs) in
-    let a : sources M ≡ sinks N = rw back at (turned-sources P) in
-    let b : sinks M ≡ sources N = rw back at (turned-sinks P) in
-    let c : alone M ≡ alone N = rw back at (turned-alone P) in
+-- a network turned round stands in the turned rows, with sources and sinks exchanged
+pub stands-turned : {w : List ℕ} (N : Network) {R T : RowsAt} {A : ListsAt} → T .zones ≡ R .zones →
+    Side-stands w R A N → Arranged-at w T (turned N .arcs) → T .rows + length (turned N .arcs) ≤ length w →
+    Side-stands w T (record { sources = A .sinks; sinks = A .sources; alone = A .alone }) (turned N)
+unfolding turned
+stands-turned N e S turns fits =
+    let P = S .proper in
     record {
+      proper = turned-proper P;
+      numbered = λ z m. omega (arith, S .numbered z m);
       arranged = turns;
-      between = rw e (between-turned ts hs (S .between));
       fits = fits;
-      sources-held = rw (e, a) (S .sinks-held);
-      sinks-held = rw (e, b) (S .sources-held);
-      alone-held = rw (e, c) (S .alone-held);
+      sources-held = rw (turned-sources P) (S .sinks-held);
+      sinks-held = rw (turned-sinks P) (S .sources-held);
+      alone-held = rw (turned-alone P) (S .alone-held);
     }
 
 -- where starts and ends are put in each other's places, the links stand turned back

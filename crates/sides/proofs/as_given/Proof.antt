@@ -34,7 +34,7 @@ returns c =
             stations-before = omega arith;
           };
       below = omega arith;
-      stands = λ w ts hs B. B .given;
+      stands = λ w N B. B .given;
       zones = refl;
       columns = λ w ls C. C;
     }

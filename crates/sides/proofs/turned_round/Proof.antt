@@ -39,7 +39,7 @@ returns c =
             stations-before = omega arith;
           };
       below = omega arith;
-      stands = λ w ts hs B. stands-turned ts hs same (B .given) (B .turned) (B .turned-fits);
+      stands = λ w N B. stands-turned N same (B .given) (B .turned-round) (B .turned-fits);
       zones = same;
     }
 
