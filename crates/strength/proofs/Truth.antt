@@ -83,7 +83,7 @@ module _ (n : ℕ) (ts hs gone : List ℕ) (F : Fine-with n ts hs gone) (from : 
   abbrev N : Network
   N = handed-with n ts hs gone
 
-  -- it is strong exactly where the zone reaches all that remain, and all of them reach it, in the network of all numbers
+  -- it is strong exactly where the zone reaches all that remain and all of them reach it, in the network of all numbers
   hub : (strong N ≡ true) ↔
       ((v : ℕ) → v < n → listed gone v ≡ false → Reach (handed n ts hs) from v × Reach (handed n ts hs) v from)
   unfolding handed-with

@@ -38,7 +38,8 @@ abbrev arranged-from : Arranged-here → tie.Start
 arranged-from c = start (found-from c)
 
 -- the lowest zone that is not withdrawn remains
-remains : (c : tie.After-lowest) → In (c .lowest .result) (remaining (start c .args .m .zones) (start c .args .gone .now))
+remains : (c : tie.After-lowest) →
+    In (c .lowest .result) (remaining (start c .args .m .zones) (start c .args .gone .now))
 remains c =
     let s = start c in
     lowest-remains (s .args .m .zones) (s .args .gone .now) (s .pre .fine .remains .1) (c .lowest .ensures)
@@ -63,8 +64,8 @@ standing-first c =
     let a = s .args in
     let p = placed (s .pre .ready .map) in
     let q = searches-placed (s .pre .ready .map) in
-    stood-standing (a .m) (a .tails .now) (a .heads .now) (a .work .now) (s .pre .ready) _ (a .m .back .queue) (omega arith)
-    (stood-here c)
+    stood-standing (a .m) (a .tails .now) (a .heads .now) (a .work .now) (s .pre .ready) _ (a .m .back .queue)
+    (omega arith) (stood-here c)
 
 -- what lies below the second queue is zero
 zero-first : (c : Arranged-here) (i : ℕ) → i < arranged-from c .args .m .back .queue →
@@ -192,9 +193,9 @@ returns c =
     let p = placed (s .pre .ready .map) in
     let q = searches-placed (s .pre .ready .map) in
     let after =
-    kept-standing (a .m) (a .tails .now) (a .heads .now) (a .work .now) (s .pre .ready) (a .work .now) (d .sweep .last .0) v
-    (a .m .back .marks) (a .m .back .queue) (a .m .turned .zones) (omega arith) (second .sweep2 .ensures .kept)
-    (standing-here d) in
+    kept-standing (a .m) (a .tails .now) (a .heads .now) (a .work .now) (s .pre .ready) (a .work .now)
+    (d .sweep .last .0) v (a .m .back .marks) (a .m .back .queue) (a .m .turned .zones) (omega arith)
+    (second .sweep2 .ensures .kept) (standing-here d) in
     record {
       answer =
           c .both .ensures

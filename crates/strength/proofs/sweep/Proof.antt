@@ -1,5 +1,5 @@
--- `sweep` meets its contract: the marks stand where the search came, the withdrawn zones are stamped, and all are looked
--- at. Assumes nothing.
+-- `sweep` meets its contract: the marks stand where the search came, the withdrawn zones are stamped, and all are
+-- looked at. Assumes nothing.
 use borrow.Author.Needs.{needs}
 use native.Mathlib.Omega.{arith}
 use Rattle.strength.proofs.Truth.{swept}

@@ -1,5 +1,5 @@
--- `stamp` meets its contract. The loop's invariant: the first k withdrawn numbers are stamped. The measure is the number
--- of withdrawn numbers that are left. Assumes nothing.
+-- `stamp` meets its contract. The loop's invariant: the first k withdrawn numbers are stamped. The measure is the
+-- number of withdrawn numbers that are left. Assumes nothing.
 use borrow.Author.Needs.{needs}
 use native.Mathlib.Omega.{arith}
 use Prim.Native.Nat.{ℕ, _+_, _≤_, _<_, _-_}
