@@ -6,8 +6,9 @@
 --   files-right             they are the same
 -- Document 01: "Order: PAIR, ZONES, ARCS, then arc by arc RANGE (tail, then head) and SELF, then the two zones of a
 -- reach question (RANGE), then ROOM", and of a file "the first trouble from left to right. A number is tested for 1, 2,
--- 3 and then for its value." Document 02, No. 1: HEAD, "tested and placed where RANGE was for a head". That HEAD comes
--- before SELF cannot be told: an arc from a zone to itself has a head that is a zone.
+-- 3 and then for its value." Document 02, No. 1: HEAD, "tested and placed where RANGE was for a head"; No. 2: LIST and
+-- NONE, "both in that order after ARCS", and GONE, "after SELF for arcs and after both range tests for a question". That
+-- HEAD comes before SELF cannot be told: an arc from a zone to itself has a head that is a zone.
 use mathlib.Core.Path.{_≡_, refl}
 use mathlib.Core.List.{List, [], _∷_}
 use mathlib.Core.Option.{Option, none, some}
@@ -23,6 +24,9 @@ use Rattle.rules.specs.declared.TroubleKind.the-variants.{
   Room,
   Pair,
   Head,
+  ZoneList,
+  None,
+  Gone,
 }
 use Rattle.rules.specs.declared.Trouble.{Trouble}
 use Rattle.rules.specs.Answers.{refusal}
@@ -65,6 +69,36 @@ both-fail =
     -- a question to what is no zone, and no work memory
     reach-trouble 2 (0 ∷ []) (1 ∷ []) [] 0 9 []
     ∷
+    -- 4,097 arcs, and a withdrawn number out of range
+    strong-trouble 2 (replicate 4097 0) (replicate 4097 1) (2 ∷ []) []
+    ∷
+    -- a withdrawn number out of range, and one behind it that is not above it
+    strong-trouble 7 [] [] (9 ∷ 4 ∷ []) []
+    ∷
+    -- the same withdrawn number twice, and all zones withdrawn
+    strong-trouble 2 [] [] (0 ∷ 1 ∷ 1 ∷ []) []
+    ∷
+    -- all zones withdrawn, and a tail that is no zone
+    strong-trouble 2 (2 ∷ []) (0 ∷ []) (0 ∷ 1 ∷ []) []
+    ∷
+    -- an arc from a withdrawn zone to itself
+    strong-trouble 3 (0 ∷ 2 ∷ []) (1 ∷ 2 ∷ []) (2 ∷ []) []
+    ∷
+    -- a withdrawn head, and a later tail that is no zone
+    strong-trouble 3 (0 ∷ 1 ∷ 3 ∷ []) (1 ∷ 2 ∷ 0 ∷ []) (2 ∷ []) []
+    ∷
+    -- a withdrawn tail, and a question about what is no zone
+    reach-trouble 3 (0 ∷ 2 ∷ []) (1 ∷ 0 ∷ []) (2 ∷ []) 9 0 []
+    ∷
+    -- a question from a withdrawn zone to what is no zone
+    reach-trouble 3 (0 ∷ []) (1 ∷ []) (2 ∷ []) 2 9 []
+    ∷
+    -- a question to a withdrawn zone, and no work memory
+    reach-trouble 3 (0 ∷ []) (1 ∷ []) (2 ∷ []) 0 2 []
+    ∷
+    -- a withdrawn tail, and no room
+    write-trouble 3 (0 ∷ 2 ∷ []) (1 ∷ 0 ∷ []) (2 ∷ []) []
+    ∷
     -- an arc from a zone to itself, and no room
     write-trouble 2 (0 ∷ 1 ∷ []) (1 ∷ 1 ∷ []) [] []
     ∷ strong-trouble 2 (0 ∷ 1 ∷ []) (1 ∷ 1 ∷ []) [] []
@@ -86,6 +120,16 @@ first-told =
     ∷ some (refusal SelfArc 1)
     ∷ some (refusal Range 1)
     ∷ some (refusal Head 1)
+    ∷ some (refusal Arcs 0)
+    ∷ some (refusal ZoneList 0)
+    ∷ some (refusal ZoneList 2)
+    ∷ some (refusal None 0)
+    ∷ some (refusal SelfArc 1)
+    ∷ some (refusal Gone 1)
+    ∷ some (refusal Gone 1)
+    ∷ some (refusal Head 1)
+    ∷ some (refusal Gone 1)
+    ∷ some (refusal Gone 1)
     ∷ replicate 5 (some (refusal SelfArc 1))
 
 -- the earlier of two tests that fail is told
