@@ -6,7 +6,7 @@ use Rattle.survey.proofs.survey.Tie as tie
 
 -- the function's entry, from where the rows are arranged
 abbrev start : tie.After-ready → tie.Start
-start c = c .before .before .before .before .before
+start c = c .before .before .before .before .before .before
 
 -- the rows are arranged, from where the components are named
 abbrev rows : tie.After-name-all → tie.After-ready
@@ -22,7 +22,7 @@ name-all-requires c κs =
       a .tails .now,
       (
         a .heads .now,
-        for-naming (a .m) (a .tails .now) (a .heads .now) (a .work .now) (start r .pre) (r .ready .last .1 .1 .1 .0)
+        for-naming (a .m) (a .tails .now) (a .heads .now) (a .gone .now) (a .work .now) (start r .pre) (r .ready .last .1 .1 .1 .0)
             (r .ready .ensures),
       ),
     )
@@ -33,10 +33,10 @@ list-kinds-requires c κs =
     let r = rows m in
     let a = start r .args in
     let lent =
-    for-naming (a .m) (a .tails .now) (a .heads .now) (a .work .now) (start r .pre) (r .ready .last .1 .1 .1 .0)
+    for-naming (a .m) (a .tails .now) (a .heads .now) (a .gone .now) (a .work .now) (start r .pre) (r .ready .last .1 .1 .1 .0)
     (r .ready .ensures)
     in
-    for-listing (a .m) (a .tails .now) (a .heads .now) (a .work .now) (start r .pre) (r .ready .last .1 .1 .1 .0)
+    for-listing (a .m) (a .tails .now) (a .heads .now) (a .gone .now) (a .work .now) (start r .pre) (r .ready .last .1 .1 .1 .0)
     (r .ready .ensures) (m .name-all .last .0) (m .name-all .result)
     (m .name-all .ensures (a .tails .now) (a .heads .now) lent)
 
@@ -50,13 +50,13 @@ returns c =
     let r = rows m in
     let a = start r .args in
     let lent =
-    for-naming (a .m) (a .tails .now) (a .heads .now) (a .work .now) (start r .pre) (r .ready .last .1 .1 .1 .0)
+    for-naming (a .m) (a .tails .now) (a .heads .now) (a .gone .now) (a .work .now) (start r .pre) (r .ready .last .1 .1 .1 .0)
     (r .ready .ensures)
     in
-    surveyed (a .m) (a .tails .now) (a .heads .now) (a .work .now) (start r .pre) (r .ready .last .1 .1 .1 .0)
+    surveyed (a .m) (a .tails .now) (a .heads .now) (a .gone .now) (a .work .now) (start r .pre) (r .ready .last .1 .1 .1 .0)
     (r .ready .ensures) (m .name-all .last .0) (m .name-all .result)
     (m .name-all .ensures (a .tails .now) (a .heads .now) lent)
-    (k .list-kinds .last .1 .1 .1 .1 .0) (k .list-kinds .result) (k .list-kinds .ensures)
+    (k .list-kinds .last .1 .1 .1 .1 .1 .0) (k .list-kinds .result) (k .list-kinds .ensures)
 
 pub survey-spec : {M : Type 1} → statement M
 survey-spec =
