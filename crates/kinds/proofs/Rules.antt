@@ -1,10 +1,10 @@
--- What was noted is what the rules say.
+-- What was noted is what the rules say of the network of the zones that remain.
 --   together-name           a zone is in the component of a name exactly where the name is its own
 --   entered-is, left-is     with each zone's name, the tests of one arc are the rules'
 --   sources-list, sinks-list, alone-list   names kept by what was noted are a kind of the rules
 --   for-marking             the arcs may be noted
 --   named-after, entered-after, exited-after   what then stands for each zone, and for each name
--- Assumes nothing.
+-- The names that stand there are those in the network of all numbers, and each is the same in both. Assumes nothing.
 use mathlib.Core.Path.{_≡_, sym, ap, ap₂, _∙_}
 use mathlib.Core.Logic.{inl, inr}
 use mathlib.Core.Bool.{Bool, not, _&&_}
@@ -16,7 +16,7 @@ use lib.ListN.{length, take}
 use lib.Seq.{take-length}
 use borrow.Author.Tests.{eqb-true, eq-eqb}
 use Rattle.rules.specs.Lists.{any, keep, span}
-use Rattle.rules.specs.Network.{Arc, Network, network-of, Proper}
+use Rattle.rules.specs.Network.{Arc, Network, network-of, remaining, network-with, Proper}
 use Rattle.rules.specs.Components.{together, name, is-name, names, entered, exited, sources, sinks, alone}
 use Rattle.rules.specs.Answers.{yes-number}
 use Rattle.memory.specs.Regions.{cell}
@@ -26,11 +26,12 @@ use Rattle.theory.proofs.Ground.Lists.{any-agree, keep-agree, in-keep}
 use Rattle.theory.proofs.Ground.Ascending.{span-in, in-span, network-proper}
 use Rattle.theory.proofs.Reaching.Components.{together-sound, together-complete, name-in, name-agree, name-apart}
 use Rattle.theory.proofs.Reaching.Components.{names-zone}
+use Rattle.theory.proofs.Withdrawn.Remaining.{stays, remaining-in, Bridge, bridge}
 use Rattle.rules.specs.Calls.{arcs-of}
 use Rattle.workmap.specs.declared.KindsAt.{KindsAt}
 use Rattle.workmap.specs.declared.ListsAt.{ListsAt}
 use Rattle.borders.specs.Borders.{comes, goes, own-kind, Markable, Marking}
-use Rattle.kinds.specs.Lists.{Nameable}
+use Rattle.kinds.specs.Lists.{Nameable, Withdrawable}
 use Rattle.borders.proofs.Marks.{names-around}
 use Rattle.borders.proofs.Tests.{keep-keep, yes-zero, yes-one, both-ways}
 
@@ -56,36 +57,36 @@ module _ {N : Network} (P : Proper N) (f : ℕ → ℕ) (named : (v : ℕ) → I
   left-is {c} m = any-agree (goes f c) (λ e. together N (e .tail) c && not (together N (e .head) c)) (N .arcs)
       (λ e i. sym (ap₂ (λ a b. a && not b) (together-name (P .tails i) m) (together-name (P .heads i) m)))
 
--- the arcs es: each zone's name stands in w, and for each name whether it is entered and left
+-- the arcs es, and withdrawn numbers: each zone's name stands in w, and for each name whether it is entered and left
 module _
     (k : KindsAt)
     (es : List Arc)
-    (w : List ℕ)
-    (named : (v : ℕ) → v < k .zones → cell w (k .names) v ≡ name (network-of (k .zones) es) v)
+    (gone w : List ℕ)
+    (named : (v : ℕ) → v < k .zones → cell w (k .names) v ≡ name (network-with (k .zones) es gone) v)
     (into :
-    (c : ℕ) → In c (names (network-of (k .zones) es)) →
-    cell w (k .entered) c ≡ yes-number (entered (network-of (k .zones) es) c))
+    (c : ℕ) → In c (names (network-with (k .zones) es gone)) →
+    cell w (k .entered) c ≡ yes-number (entered (network-with (k .zones) es gone) c))
     (out :
-    (c : ℕ) → In c (names (network-of (k .zones) es)) →
-    cell w (k .exited) c ≡ yes-number (exited (network-of (k .zones) es) c))
+    (c : ℕ) → In c (names (network-with (k .zones) es gone)) →
+    cell w (k .exited) c ≡ yes-number (exited (network-with (k .zones) es gone) c))
   where
     -- the network
     abbrev N : Network
-    N = network-of (k .zones) es
+    N = network-with (k .zones) es gone
 
     -- The names with x and y noted are those that pass a test, where for each name the test says just that.
     kind-list : (x y : ℕ) (q : ℕ → Bool) →
         ((c : ℕ) → In c (names N) → (eqb (yes-number (entered N c)) x && eqb (yes-number (exited N c)) y) ≡ q c) →
-        keep (own-kind k x y w) (span 0 (k .zones)) ≡ keep q (names N)
+        keep (own-kind k x y w) (remaining (k .zones) gone) ≡ keep q (names N)
     unfolding names is-name
     kind-list x y q same =
-        keep-agree (own-kind k x y w) (λ z. is-name N z && q z) (span 0 (k .zones)) agree
-        ∙ sym (keep-keep (is-name N) q (span 0 (k .zones)))
+        keep-agree (own-kind k x y w) (λ z. is-name N z && q z) (remaining (k .zones) gone) agree
+        ∙ sym (keep-keep (is-name N) q (remaining (k .zones) gone))
       where
-        agree : (z : ℕ) → In z (span 0 (k .zones)) → own-kind k x y w z ≡ (is-name N z && q z)
+        agree : (z : ℕ) → In z (remaining (k .zones) gone) → own-kind k x y w z ≡ (is-name N z && q z)
         agree z i =
             let e : eqb (cell w (k .names) z) z ≡ eqb (name N z) z =
-            ap (λ (v : ℕ). eqb v z) (named z (omega (arith, span-in 0 (k .zones) i)))
+            ap (λ (v : ℕ). eqb v z) (named z (remaining-in (k .zones) gone i .0))
             in
             elim (bool-cases (eqb (name N z) z)) [
               | inl h ↦ let m = in-keep (is-name N) i h in rw (e, h, into z m, out z m) (same z m)
@@ -93,7 +94,7 @@ module _
             ]
 
     -- Names that are left and not entered are the sources.
-    pub sources-list : keep (own-kind k 0 1 w) (span 0 (k .zones)) ≡ sources N
+    pub sources-list : keep (own-kind k 0 1 w) (remaining (k .zones) gone) ≡ sources N
     unfolding sources
     sources-list =
         kind-list 0 1 (λ c. exited N c && not (entered N c))
@@ -101,14 +102,14 @@ module _
         ap₂ _&&_ (yes-zero (entered N c)) (yes-one (exited N c)) ∙ both-ways (entered N c) (exited N c))
 
     -- Names that are entered and not left are the sinks.
-    pub sinks-list : keep (own-kind k 1 0 w) (span 0 (k .zones)) ≡ sinks N
+    pub sinks-list : keep (own-kind k 1 0 w) (remaining (k .zones) gone) ≡ sinks N
     unfolding sinks
     sinks-list =
         kind-list 1 0 (λ c. entered N c && not (exited N c))
         (λ c m. ap₂ _&&_ (yes-one (entered N c)) (yes-zero (exited N c)))
 
     -- Names that are neither are alone.
-    pub alone-list : keep (own-kind k 0 0 w) (span 0 (k .zones)) ≡ alone N
+    pub alone-list : keep (own-kind k 0 0 w) (remaining (k .zones) gone) ≡ alone N
     unfolding alone
     alone-list =
         kind-list 0 0 (λ c. not (entered N c) && not (exited N c))
@@ -144,27 +145,42 @@ module _ {k : KindsAt} {l : ListsAt} {ts hs w : List ℕ} (I : Nameable k l ts h
         exited-clear = I .exited-clear;
       }
 
-  -- all arcs are noted
-  module _ {w' : List ℕ} (M : Marking k (arcs-of ts hs) (length ts) w w') where
-    -- The names are kept.
-    pub named-after : (v : ℕ) → v < k .zones →
-        cell w' (k .names) v ≡ name (network-of (k .zones) (arcs-of ts hs)) v
-    named-after v l = names-around (for-marking .room) (M .around) v ∙ I .named v l
+  -- withdrawn numbers that may be left out
+  module _ {gone : List ℕ} (G : Withdrawable (k .zones) (arcs-of ts hs) gone) where
+    -- the network of the zones that remain, with its names
+    abbrev M : Network
+    M = network-with (k .zones) (arcs-of ts hs) gone
 
-    -- All arcs are the first arcs, as many as there are.
-    all-arcs : take (length ts) (arcs-of ts hs) ≡ arcs-of ts hs
-    all-arcs = rw (sym (arcs-length ts hs (I .pairs))) (take-length (arcs-of ts hs))
+    -- The bridge to it from the network of all numbers.
+    remain : Bridge (stays gone) (network-of (k .zones) (arcs-of ts hs)) M
+    remain = bridge (k .zones) proper (G .free)
 
-    -- It stands for each name whether it is entered.
-    pub entered-after : (c : ℕ) → In c (names (network-of (k .zones) (arcs-of ts hs))) →
-        cell w' (k .entered) c ≡ yes-number (entered (network-of (k .zones) (arcs-of ts hs)) c)
-    entered-after c m =
-        (rw all-arcs at (M .entered c (zone-low (names-zone (network-of (k .zones) (arcs-of ts hs)) m .0))))
-        ∙ ap yes-number (entered-is proper (cell w (k .names)) (λ v i. I .named v (zone-low i)) m)
+    -- Each zone's name in it stands there.
+    names-remain : (v : ℕ) → v < k .zones → cell w (k .names) v ≡ name M v
+    names-remain v l = I .named v l ∙ sym (remain .name-is v)
 
-    -- It stands for each name whether it is left.
-    pub exited-after : (c : ℕ) → In c (names (network-of (k .zones) (arcs-of ts hs))) →
-        cell w' (k .exited) c ≡ yes-number (exited (network-of (k .zones) (arcs-of ts hs)) c)
-    exited-after c m =
-        (rw all-arcs at (M .exited c (zone-low (names-zone (network-of (k .zones) (arcs-of ts hs)) m .0))))
-        ∙ ap yes-number (left-is proper (cell w (k .names)) (λ v i. I .named v (zone-low i)) m)
+    -- A zone that remains has its place.
+    place : {v : ℕ} → In v (remaining (k .zones) gone) → v < k .zones
+    place i = remaining-in (k .zones) gone i .0
+
+    -- all arcs are noted
+    module _ {w' : List ℕ} (K : Marking k (arcs-of ts hs) (length ts) w w') where
+      -- The names are kept.
+      pub named-after : (v : ℕ) → v < k .zones → cell w' (k .names) v ≡ name M v
+      named-after v l = names-around (for-marking .room) (K .around) v ∙ names-remain v l
+
+      -- All arcs are the first arcs, as many as there are.
+      all-arcs : take (length ts) (arcs-of ts hs) ≡ arcs-of ts hs
+      all-arcs = rw (sym (arcs-length ts hs (I .pairs))) (take-length (arcs-of ts hs))
+
+      -- It stands for each name whether it is entered.
+      pub entered-after : (c : ℕ) → In c (names M) → cell w' (k .entered) c ≡ yes-number (entered M c)
+      entered-after c m =
+          (rw all-arcs at (K .entered c (place (names-zone M m .0))))
+          ∙ ap yes-number (entered-is (remain .proper) (cell w (k .names)) (λ v i. names-remain v (place i)) m)
+
+      -- It stands for each name whether it is left.
+      pub exited-after : (c : ℕ) → In c (names M) → cell w' (k .exited) c ≡ yes-number (exited M c)
+      exited-after c m =
+          (rw all-arcs at (K .exited c (place (names-zone M m .0))))
+          ∙ ap yes-number (left-is (remain .proper) (cell w (k .names)) (λ v i. names-remain v (place i)) m)

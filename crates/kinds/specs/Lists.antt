@@ -4,17 +4,19 @@
 --   Listing k x y to z r w w'   the names of one kind among the first z zones stand from `to` on, and r counts them
 --   Apart k l                all regions lie apart
 --   Nameable k l ts hs w     the kinds may be found, and there is room for their lists
+--   Withdrawable n es gone   withdrawn numbers may be left out: they are zones, and at no arc
 --   Listed k l N r w w'      the names of each kind stand in w', and r counts them
 use mathlib.Core.Path.{_≡_}
 use mathlib.Core.Logic.{_⊎_}
-use mathlib.Core.List.{List}
+use mathlib.Core.List.{List, List·Memᴰ as In}
 use Prim.Native.Nat.{ℕ, _+_, _≤_, _<_}
 use lib.ListN.{length, drop}
 use lib.Seq.{sets}
 use Rattle.rules.specs.Lists.{span, keep}
-use Rattle.rules.specs.Network.{Network, network-of}
+use Rattle.rules.specs.Network.{Arc, Network, network-of}
 use Rattle.rules.specs.Components.{name, sources, sinks, alone}
 use Rattle.rules.specs.Calls.{arcs-of}
+use Rattle.theory.proofs.Withdrawn.Remaining.{Free}
 use Rattle.workmap.specs.declared.KindsAt.{KindsAt}
 use Rattle.workmap.specs.declared.ListsAt.{ListsAt}
 use Rattle.memory.specs.Regions.{cell, Holds}
@@ -52,6 +54,11 @@ pub record Nameable (k : KindsAt) (l : ListsAt) (ts hs w : List ℕ) : Type 0 wh
   pub named : (v : ℕ) → v < k .zones → cell w (k .names) v ≡ name (network-of (k .zones) (arcs-of ts hs)) v
   pub entered-clear : (c : ℕ) → c < k .zones → cell w (k .entered) c ≡ 0
   pub exited-clear : (c : ℕ) → c < k .zones → cell w (k .exited) c ≡ 0
+
+-- the withdrawn numbers are below n, and no arc has one of them as an end
+pub record Withdrawable (n : ℕ) (es : List Arc) (gone : List ℕ) : Type 0 where
+  pub below : (z : ℕ) → In z gone → z < n
+  pub free : Free es gone
 
 -- the names of each kind stand in w', ascending, and r counts them; behind them the memory is as it was
 pub record Listed (k : KindsAt) (l : ListsAt) (N : Network) (r : Counts) (w w' : List ℕ) : Type 0 where

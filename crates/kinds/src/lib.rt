@@ -1,15 +1,17 @@
 // The kinds of the components, in lent work memory, where each zone's name stands: every arc is noted at the names of
-// its ends; then the names of the sources, of the sinks and of the components alone are put, as three ascending lists,
-// and counted, by a pass over the zones for each. The map says where everything stands.
+// its ends, and withdrawn zones get a stamp that no kind has; then the names of the sources, of the sinks and of the
+// components alone are put, as three ascending lists, and counted, by a pass over the zones for each. The map says
+// where everything stands.
 use borders::mark;
+use withdrawn::stamp;
 use workmap::KindsAt;
 use workmap::ListsAt;
 ghost use mathlib.Core.Path.{_≡_};
 ghost use Prim.Native.Nat.{_<_};
-ghost use Rattle.rules.specs.Network.{network-of};
+ghost use Rattle.rules.specs.Network.{network-with};
 ghost use Rattle.rules.specs.Calls.{arcs-of};
 ghost use Rattle.borders.specs.Borders.{Kinds-room, own-kind};
-ghost use Rattle.kinds.specs.Lists.{Listable, Listing, Nameable, Listed};
+ghost use Rattle.kinds.specs.Lists.{Listable, Listing, Nameable, Withdrawable, Listed};
 
 // How many components are sources, sinks and alone.
 pub struct Counts {
@@ -53,19 +55,24 @@ fn list(at: KindsAt, x: u16, y: u16, to: usize, work: &mut [u16]) -> usize
     count
 }
 
-// Finds which components are entered and left, lists the names of each kind, and answers how many there are.
+// Finds which components are entered and left, lists the names of each kind, the withdrawn zones left out, and answers
+// how many there are.
 pub fn list_kinds(
     at: KindsAt,
     to: ListsAt,
     tails: &[u16],
     heads: &[u16],
+    gone: &[u16],
     work: &mut [u16],
 ) -> Counts
     requires { ⌜ Nameable at to (now tails) (now heads) (now work) ⌝ }
-    ensures { λ r. ⌜ Listed at to (network-of (at .zones) (arcs-of (now (tails .entry)) (now (heads .entry)))) r
+    requires { ⌜ Withdrawable (at .zones) (arcs-of (now tails) (now heads)) (now gone) ⌝ }
+    ensures { λ r. ⌜ Listed at to
+        (network-with (at .zones) (arcs-of (now (tails .entry)) (now (heads .entry))) (now (gone .entry))) r
         (now (work .entry)) (now (work .exit)) ⌝ }
 {
     mark(at, tails, heads, work);
+    stamp(work, at.entered, at.zones, gone, 2);
     let sources = list(at, 0, 1, to.sources, work);
     let sinks = list(at, 1, 0, to.sinks, work);
     let alone = list(at, 0, 0, to.alone, work);

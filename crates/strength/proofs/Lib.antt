@@ -1,3 +1,3 @@
--- Laws of work memory with a network's rows arranged both ways, and of what searches from zone 0 tell.
+-- Laws of work memory with a network's rows arranged both ways, and of what searches from one zone tell.
 pub mod Memory
 pub mod Truth

@@ -1,2 +1,2 @@
--- What is read off a search from zone 0.
+-- What is read off a search that is to come to every zone that remains.
 pub mod Marks

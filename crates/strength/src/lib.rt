@@ -1,18 +1,19 @@
-// Whether a network that passed its tests is strong, answered in lent work memory: whether a search from zone 0 comes
-// everywhere along the arcs, and against them.
+// Whether a network that passed its tests is strong, answered in lent work memory: whether a search from the lowest
+// zone that is not withdrawn comes to all others along the arcs, and against them.
 ghost use mathlib.Core.Path.{_≡_};
 ghost use mathlib.Core.Bool.{_&&_};
 ghost use Prim.Native.Nat.{_+_, _≤_};
 ghost use lib.ListN.{length};
 ghost use Rattle.rules.specs.Network.{strong};
-ghost use Rattle.rules.specs.Calls.{handed};
-ghost use Rattle.search.specs.Marking.{Clear, Searchable};
-ghost use Rattle.arranged.specs.Ready.{Readyable};
+ghost use Rattle.rules.specs.Calls.{handed-with};
+ghost use Rattle.withdrawn.specs.Withdrawn.{Ready-with};
 ghost use Rattle.reaching.specs.Questions.{Answered};
-ghost use Rattle.strength.specs.Marks.{Says-all, Swept};
+ghost use Rattle.strength.specs.Marks.{Says-all, Sweepable, Swept};
 use arranged::both_ways;
 use memory::clear;
 use search::search;
+use withdrawn::lowest;
+use withdrawn::stamp;
 use workmap::Map;
 use workmap::RowsAt;
 use workmap::SearchAt;
@@ -42,29 +43,32 @@ fn both(first: bool, second: bool) -> bool
     false
 }
 
-// Searches from zone 0 along the rows, and answers whether the search came everywhere.
-fn sweep(work: &mut [u16], rows: RowsAt, at: SearchAt) -> bool
-    requires { ⌜ Searchable (now work) rows at 0 ⌝ }
-    requires { ⌜ Clear (now work) (at .marks) (rows .zones) ⌝ }
-    ensures { λ r. ⌜ Swept (now (work .entry)) (now (work .exit)) rows at r ⌝ }
+// Searches from a zone along the rows, and answers whether the search came to every zone that is not withdrawn: the
+// withdrawn ones get a stamp for a mark, and then all are looked at.
+fn sweep(work: &mut [u16], rows: RowsAt, at: SearchAt, from: usize, gone: &[u16]) -> bool
+    requires { ⌜ Sweepable (now work) rows at from (now gone) ⌝ }
+    ensures { λ r. ⌜ Swept (now (work .entry)) (now (work .exit)) rows at from (now (gone .entry)) r ⌝ }
 {
-    search(work, rows, at, 0);
+    search(work, rows, at, from);
+    stamp(work, at.marks, rows.zones, gone, 1);
     all_marked(work, at.marks, rows.zones)
 }
 
-// Whether zone 0 comes everywhere along the arcs, and against them. Only the marks have to be clear beforehand, and
-// they lie below the second queue.
-pub fn joined(m: Map, tails: &[u16], heads: &[u16], work: &mut [u16]) -> bool
-    requires { ⌜ Readyable m (now tails) (now heads) (now work) ⌝ }
-    ensures { λ r. ⌜ Answered r (strong (handed (m .zones) (now (tails .entry)) (now (heads .entry))))
+// Whether the lowest zone that is not withdrawn comes to all others along the arcs, and against them. Only the marks
+// have to be clear beforehand, and they lie below the second queue.
+pub fn joined(m: Map, tails: &[u16], heads: &[u16], gone: &[u16], work: &mut [u16]) -> bool
+    requires { ⌜ Ready-with m (now tails) (now heads) (now gone) (now work) ⌝ }
+    ensures { λ r. ⌜ Answered r
+        (strong (handed-with (m .zones) (now (tails .entry)) (now (heads .entry)) (now (gone .entry))))
         (m .asked) (now (work .entry)) (now (work .exit)) ⌝ }
 {
     let asked = m.asked;
     let against = m.back;
+    let from = lowest(gone);
     clear(work, against.queue);
     both_ways(m, tails, heads, work);
-    let there = sweep(work, m.rows, m.search);
-    let back = sweep(work, m.turned, against);
+    let there = sweep(work, m.rows, m.search, from, gone);
+    let back = sweep(work, m.turned, against, from, gone);
     clear(work, asked);
     both(there, back)
 }

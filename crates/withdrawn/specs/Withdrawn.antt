@@ -5,12 +5,12 @@
 use mathlib.Core.Path.{_≡_}
 use mathlib.Core.Bool.{Bool, true, false}
 use mathlib.Core.List.{List}
-use Prim.Native.Nat.{ℕ, _+_, _≤_, _<_}
-use mathlib.Core.Logic.{_⊎_}
-use lib.ListN.{length, getD}
+use Prim.Native.Nat.{ℕ, _+_, _<_}
+use lib.ListN.{length, take, drop}
 use Rattle.rules.specs.Lists.{listed}
 use Rattle.theory.proofs.Files.Accepting.{Fine-with}
 use Rattle.workmap.specs.declared.Map.{Map}
+use Rattle.memory.specs.Regions.{cell}
 use Rattle.arranged.specs.Ready.{Readyable}
 
 -- a network that passed its tests, with its withdrawn numbers, and memory as long as asked
@@ -31,5 +31,6 @@ stamped false x y = y
 -- of the n places from `at` on, x stands in those of the withdrawn numbers, and nothing else is changed
 pub record Stamped (w w' : List ℕ) (at n : ℕ) (gone : List ℕ) (x : ℕ) : Type 0 where
   pub long : length w' ≡ length w
-  pub inside : (z : ℕ) → z < n → getD w' (at + z) 0 ≡ stamped (listed gone z) x (getD w (at + z) 0)
-  pub outside : (i : ℕ) → (i < at) ⊎ (at + n ≤ i) → getD w' i 0 ≡ getD w i 0
+  pub inside : (z : ℕ) → z < n → cell w' at z ≡ stamped (listed gone z) x (cell w at z)
+  pub below : take at w' ≡ take at w
+  pub above : drop (at + n) w' ≡ drop (at + n) w

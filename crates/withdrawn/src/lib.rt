@@ -28,9 +28,9 @@ pub fn stamp(work: &mut [u16], at: usize, n: usize, gone: &[u16], mark: u16)
     requires { ⌜ ((z : ℕ) → In z (now gone) → z < n) ⌝ }
     ensures { λ r. ⌜ Stamped (now (work .entry)) (now (work .exit)) at n (now (gone .entry)) mark ⌝ }
 {
-    let mut i = 0;
-    while i < gone.len() {
-        work[at + gone[i] as usize] = mark;
-        i += 1;
+    let mut k = 0;
+    while k < gone.len() {
+        work[at + gone[k] as usize] = mark;
+        k += 1;
     }
 }
