@@ -1,6 +1,7 @@
 -- The survey of a network: what each of its steps asks for is left by those before it.
 --   for-naming    the components may be named where the rows are arranged and all below them is zero
---   for-listing   the kinds may be found and listed where the components are named
+--   for-leaving-out, for-listing   the kinds may be found and listed where the components are named, with the withdrawn
+--                 zones left out
 --   stands-both   where the rows stand, and the names of each kind, the network does, both ways
 --   surveyed      the rows stand, and the names of each kind
 -- The rows lie last, and each step keeps them. Assumes nothing.
@@ -9,7 +10,7 @@ use mathlib.Core.List.{List}
 use Prim.Native.Nat.{ℕ, _+_, _<_, _≤_}
 use native.Mathlib.Omega.{arith}
 use lib.ListN.{length, getD, drop}
-use Rattle.rules.specs.Network.{Network, network-of}
+use Rattle.rules.specs.Network.{Network, network-of, network-with}
 use Rattle.rules.specs.Components.{sources, sinks, alone}
 use Rattle.rules.specs.Calls.{arcs-of, handed-with}
 use Rattle.theory.proofs.Withdrawn.Remaining.{remaining-in}
@@ -25,7 +26,7 @@ use Rattle.withdrawn.specs.Withdrawn.{Ready-with}
 use Rattle.components.specs.Components.{Lent, Components}
 use Rattle.components.proofs.Lending.{lent-ready}
 use Rattle.kinds.specs.declared.Counts.{Counts}
-use Rattle.kinds.specs.Lists.{Nameable, Listed}
+use Rattle.kinds.specs.Lists.{Nameable, Withdrawable, Listed}
 use Rattle.sides.specs.Standing.{Both-ways}
 use Rattle.sides.proofs.Turning.{handed-turned}
 use Rattle.survey.specs.Survey.{Surveyed}
@@ -48,6 +49,11 @@ module _
     -- the components may be named
     pub for-naming : Lent w₁ m ts hs
     for-naming = lent-ready A R
+
+    -- the withdrawn zones may be left out
+    pub for-leaving-out : Withdrawable (m .kinds .zones) (arcs-of ts hs) gone
+    for-leaving-out =
+        rw (kinds-placed (A .map) .zones) (record { below = G .fine .below; free = G .fine .free })
 
     -- the network of the zones that remain
     abbrev N : Network
@@ -111,14 +117,15 @@ module _
 
       -- the rows stand, and the names of each kind
       pub surveyed : (w₃ : List ℕ) (r : Counts) →
-          Listed (m .kinds) (m .lists) (handed-with (m .kinds .zones) ts hs gone) r w₂ w₃ →
-          Surveyed w w₃ m (handed-with (m .zones) ts hs gone) r
+          Listed (m .kinds) (m .lists) (network-with (m .kinds .zones) (arcs-of ts hs) gone) r w₂ w₃ →
+          Surveyed w w₃ m N r
+      unfolding handed-with
       surveyed w₃ r K =
           let p = placed (A .map) in
           let k = kinds-placed (A .map) in
           let l = lists-placed (A .map) in
           let L =
-          subst (λ (n : ℕ). Listed (m .kinds) (m .lists) (handed-with n ts hs gone) r w₂ w₃) (k .zones) K
+          subst (λ (n : ℕ). Listed (m .kinds) (m .lists) (network-with n (arcs-of ts hs) gone) r w₂ w₃) (k .zones) K
           in
           let named : drop (m .rows .starts) w₂ ≡ drop (m .rows .starts) w₁ = C .back in
           let S : Standing w w₃ m ts hs =

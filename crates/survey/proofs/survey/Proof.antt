@@ -1,5 +1,5 @@
 -- `survey::survey` meets its contract: each step asks for what the ones before it leave. Assumes nothing.
-use Rattle.survey.proofs.Surveying.{for-naming, for-listing, surveyed}
+use Rattle.survey.proofs.Surveying.{for-naming, for-leaving-out, for-listing, surveyed}
 use borrow.Author.Needs.{needs}
 use Rattle.survey.proofs.survey.Statement.{statement}
 use Rattle.survey.proofs.survey.Tie as tie
@@ -35,10 +35,13 @@ list-kinds-requires c κs =
     let lent =
     for-naming (a .m) (a .tails .now) (a .heads .now) (a .gone .now) (a .work .now) (start r .pre) (r .ready .last .1 .1 .1 .0)
     (r .ready .ensures)
-    in
-    for-listing (a .m) (a .tails .now) (a .heads .now) (a .gone .now) (a .work .now) (start r .pre) (r .ready .last .1 .1 .1 .0)
-    (r .ready .ensures) (m .name-all .last .0) (m .name-all .result)
-    (m .name-all .ensures (a .tails .now) (a .heads .now) lent)
+    in (
+      for-listing (a .m) (a .tails .now) (a .heads .now) (a .gone .now) (a .work .now) (start r .pre)
+          (r .ready .last .1 .1 .1 .0) (r .ready .ensures) (m .name-all .last .0) (m .name-all .result)
+          (m .name-all .ensures (a .tails .now) (a .heads .now) lent),
+      for-leaving-out (a .m) (a .tails .now) (a .heads .now) (a .gone .now) (a .work .now) (start r .pre)
+          (r .ready .last .1 .1 .1 .0) (r .ready .ensures),
+    )
 
 same-length : tie.Need-same-length
 same-length c = search needs
