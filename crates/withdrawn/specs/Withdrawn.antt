@@ -1,6 +1,7 @@
 -- Networks with withdrawn zones, in lent work memory.
 --   Ready-with m ts hs gone w   a network that passed its tests, with its withdrawn numbers, and memory as asked
 --   Lowest gone z               z is the lowest number that is not withdrawn
+--   stamped b x y               what stands for a number: x where it is withdrawn, else y, which stood there
 --   Stamped w w' at n gone x    where the n places from `at` on stand for numbers, x stands for each withdrawn one
 use mathlib.Core.Path.{_≡_}
 use mathlib.Core.Bool.{Bool, true, false}
