@@ -25,8 +25,8 @@ small : (c : Here) →
     c .survey .result .sources + c .survey .result .sinks + c .survey .result .alone ≤ start c .args .m .zones
 small c =
     let a = start c .args in
-    sums-small (a .m) (a .tails .now) (a .heads .now) (a .gone .now) (a .work .now) (start c .pre) (c .survey .last .1 .1 .1 .1 .0)
-    (c .survey .result) (c .survey .ensures)
+    sums-small (a .m) (a .tails .now) (a .heads .now) (a .gone .now) (a .work .now) (start c .pre)
+    (c .survey .last .1 .1 .1 .1 .0) (c .survey .result) (c .survey .ensures)
 
 survey-requires : tie.Need-survey-requires
 survey-requires c κs = search needs
@@ -48,15 +48,15 @@ returns c =
     let d = here (c .before .before) in
     let a = start d .args in
     rw (c .layout-of .ensures)
-    (laid-strong (a .m) (a .tails .now) (a .heads .now) (a .gone .now) (a .work .now) (start d .pre) (d .survey .last .1 .1 .1 .1 .0)
-    (d .survey .result) (d .survey .ensures) (c .before .if1 .taken) _ refl refl)
+    (laid-strong (a .m) (a .tails .now) (a .heads .now) (a .gone .now) (a .work .now) (start d .pre)
+    (d .survey .last .1 .1 .1 .1 .0) (d .survey .result) (d .survey .ensures) (c .before .if1 .taken) _ refl refl)
 
 side-of-requires : tie.Need-side-of-requires
 side-of-requires c κs =
     let d = here (c .before) in
     let a = start d .args in
-    own-map (a .m) (a .tails .now) (a .heads .now) (a .gone .now) (a .work .now) (start d .pre) (d .survey .last .1 .1 .1 .1 .0)
-    (d .survey .result) (d .survey .ensures)
+    own-map (a .m) (a .tails .now) (a .heads .now) (a .gone .now) (a .work .now) (start d .pre)
+    (d .survey .last .1 .1 .1 .1 .0) (d .survey .result) (d .survey .ensures)
 
 lesser-requires : tie.Need-lesser-requires
 lesser-requires c κs = search needs
@@ -72,8 +72,9 @@ connect-requires c κs =
     let d = here (x .before .before) in
     let a = start d .args in (
       _,
-      rule-able (a .m) (a .tails .now) (a .heads .now) (a .gone .now) (a .work .now) (start d .pre) (d .survey .last .1 .1 .1 .1 .0)
-          (d .survey .result) (d .survey .ensures) (x .before .if1 .left) (x .side-of .result) (x .side-of .ensures)
+      rule-able (a .m) (a .tails .now) (a .heads .now) (a .gone .now) (a .work .now) (start d .pre)
+          (d .survey .last .1 .1 .1 .1 .0) (d .survey .result) (d .survey .ensures) (x .before .if1 .left)
+          (x .side-of .result) (x .side-of .ensures)
           (l .lesser .result) (g .greater .result) (l .lesser .ensures) (g .greater .ensures),
     )
 
@@ -92,14 +93,15 @@ returns-2 c =
     let d = here (x .before .before) in
     let a = start d .args in
     let able =
-    rule-able (a .m) (a .tails .now) (a .heads .now) (a .gone .now) (a .work .now) (start d .pre) (d .survey .last .1 .1 .1 .1 .0)
-    (d .survey .result) (d .survey .ensures) (x .before .if1 .left) (x .side-of .result) (x .side-of .ensures)
+    rule-able (a .m) (a .tails .now) (a .heads .now) (a .gone .now) (a .work .now) (start d .pre)
+    (d .survey .last .1 .1 .1 .1 .0) (d .survey .result) (d .survey .ensures) (x .before .if1 .left)
+    (x .side-of .result) (x .side-of .ensures)
     (l .lesser .result) (g .greater .result) (l .lesser .ensures) (g .greater .ensures)
     in
     rw (c .layout-of2 .ensures)
-    (rule-laid (a .m) (a .tails .now) (a .heads .now) (a .gone .now) (a .work .now) (start d .pre) (d .survey .last .1 .1 .1 .1 .0)
-    (d .survey .result) (d .survey .ensures) (x .before .if1 .left) (x .side-of .result) (x .side-of .ensures)
-    (f .connect .last .0) (f .connect .result) (f .connect .ensures _ able))
+    (rule-laid (a .m) (a .tails .now) (a .heads .now) (a .gone .now) (a .work .now) (start d .pre)
+    (d .survey .last .1 .1 .1 .1 .0) (d .survey .result) (d .survey .ensures) (x .before .if1 .left)
+    (x .side-of .result) (x .side-of .ensures) (f .connect .last .0) (f .connect .result) (f .connect .ensures _ able))
 
 pub lay-spec : {M : Type 1} → statement M
 lay-spec =

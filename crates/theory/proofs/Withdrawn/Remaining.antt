@@ -22,7 +22,7 @@ use lib.ListN.{length}
 use Rattle.rules.specs.Lists.{span, keep, listed}
 use Rattle.rules.specs.Network.{Arc, _⟶_, Network, network-of, remaining, network-with, Ascending, Reach, Proper}
 use Rattle.rules.specs.Network.{reaches, strong}
-use Rattle.rules.specs.Components.{together, name, names, entered, exited, sources, sinks, alone, inner}
+use Rattle.rules.specs.Components.{together, name, names, sources, sinks, alone, inner}
 use Rattle.rules.specs.Skeleton.{skeleton}
 use Rattle.theory.proofs.Ground.Bools.{false-unless, false-not, true-not-false}
 use Rattle.theory.proofs.Ground.Lists.{any-true, true-any, keep-in, in-keep, keep-all}
