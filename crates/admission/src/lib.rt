@@ -9,11 +9,12 @@ use probes::question;
 use probes::room;
 
 // STRONG: a network, and work memory.
-pub fn strong(zones: usize, tails: &[u16], heads: &[u16], work: &[u16]) -> Tested
+pub fn strong(zones: usize, tails: &[u16], heads: &[u16], gone: &[u16], work: &[u16]) -> Tested
     ensures { λ r. ⌜ tested-trouble r
-        ≡ strong-trouble zones (now (tails .entry)) (now (heads .entry)) (now (work .entry)) ⌝ }
+        ≡ strong-trouble zones (now (tails .entry)) (now (heads .entry)) (now (gone .entry)) (now (work .entry)) ⌝ }
 {
-    let found = network(zones, tails, heads);
+    let taken = network(zones, tails, heads, gone);
+    let found = taken.found;
     intake::work(found, zones, tails.len(), work.len())
 }
 
@@ -22,15 +23,18 @@ pub fn reach(
     zones: usize,
     tails: &[u16],
     heads: &[u16],
+    gone: &[u16],
     from: usize,
     to: usize,
     work: &[u16],
 ) -> Tested
     ensures { λ r. ⌜ tested-trouble r
-        ≡ reach-trouble zones (now (tails .entry)) (now (heads .entry)) from to (now (work .entry)) ⌝ }
+        ≡ reach-trouble zones (now (tails .entry)) (now (heads .entry)) (now (gone .entry)) from to
+        (now (work .entry)) ⌝ }
 {
-    let found = network(zones, tails, heads);
-    let asked = question(found, zones, tails.len(), from, to);
+    let taken = network(zones, tails, heads, gone);
+    let found = taken.found;
+    let asked = question(found, zones, tails.len(), &taken.gone, from, to);
     intake::work(asked, zones, tails.len(), work.len())
 }
 
@@ -39,15 +43,17 @@ pub fn skeleton(
     zones: usize,
     tails: &[u16],
     heads: &[u16],
+    gone: &[u16],
     from: &[u16],
     to: &[u16],
     work: &[u16],
 ) -> Tested
     ensures { λ r. ⌜ tested-trouble r
-        ≡ skeleton-trouble zones (now (tails .entry)) (now (heads .entry)) (now (from .entry)) (now (to .entry))
-        (now (work .entry)) ⌝ }
+        ≡ skeleton-trouble zones (now (tails .entry)) (now (heads .entry)) (now (gone .entry)) (now (from .entry))
+        (now (to .entry)) (now (work .entry)) ⌝ }
 {
-    let found = network(zones, tails, heads);
+    let taken = network(zones, tails, heads, gone);
+    let found = taken.found;
     let worked = intake::work(found, zones, tails.len(), work.len());
     let tailed = room(worked, tails.len(), from.len());
     room(tailed, tails.len(), to.len())
@@ -58,16 +64,18 @@ pub fn plan(
     zones: usize,
     tails: &[u16],
     heads: &[u16],
+    gone: &[u16],
     from: &[u16],
     to: &[u16],
     why: &[u16],
     work: &[u16],
 ) -> Tested
     ensures { λ r. ⌜ tested-trouble r
-        ≡ plan-trouble zones (now (tails .entry)) (now (heads .entry)) (now (from .entry)) (now (to .entry))
-        (now (why .entry)) (now (work .entry)) ⌝ }
+        ≡ plan-trouble zones (now (tails .entry)) (now (heads .entry)) (now (gone .entry)) (now (from .entry))
+        (now (to .entry)) (now (why .entry)) (now (work .entry)) ⌝ }
 {
-    let found = network(zones, tails, heads);
+    let taken = network(zones, tails, heads, gone);
+    let found = taken.found;
     let worked = intake::work(found, zones, tails.len(), work.len());
     let started = room(worked, zones, from.len());
     let ended = room(started, zones, to.len());
@@ -75,11 +83,20 @@ pub fn plan(
 }
 
 // PLAN over records: a network, work memory, and so many records, asked to be as many as there are zones.
-pub fn records(zones: usize, tails: &[u16], heads: &[u16], lent: usize, work: &[u16]) -> Tested
+pub fn records(
+    zones: usize,
+    tails: &[u16],
+    heads: &[u16],
+    gone: &[u16],
+    lent: usize,
+    work: &[u16],
+) -> Tested
     ensures { λ r. ⌜ tested-trouble r
-        ≡ records-trouble zones (now (tails .entry)) (now (heads .entry)) lent (now (work .entry)) ⌝ }
+        ≡ records-trouble zones (now (tails .entry)) (now (heads .entry)) (now (gone .entry)) lent
+        (now (work .entry)) ⌝ }
 {
-    let found = network(zones, tails, heads);
+    let taken = network(zones, tails, heads, gone);
+    let found = taken.found;
     let worked = intake::work(found, zones, tails.len(), work.len());
     room(worked, zones, lent)
 }

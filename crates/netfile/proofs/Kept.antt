@@ -31,27 +31,27 @@ pub read-kept : {file ts hs : List ℕ} {a : ReadAnswer} {ts' hs' : List ℕ}
     → Read-promise file ts hs ts' hs' (read-told a)
 read-kept p = record { told-is = p .told-is; tails = p .tails; heads = p .heads }
 
-module _ (n : ℕ) (ts hs file : List ℕ) where
+module _ (n : ℕ) (ts hs gone file : List ℕ) where
   -- What the tests of the network find, or else the test of the room, is the trouble of writing.
-  pub write-found : {a r : Tested} → Found-by (network-tests n ts hs) a
+  pub write-found : {a r : Tested} → Found-by (network-tests n ts hs gone) a
       → Found-after a (room-test (length (written n ts hs)) (length file) ∷ []) r
-      → write-trouble n ts hs file ≡ tested-trouble r
+      → write-trouble n ts hs gone file ≡ tested-trouble r
   unfolding write-trouble
   write-found f g = sym (found-on f g .first)
 
   -- Where there is no trouble, the lent list has room.
-  pub write-fits : write-trouble n ts hs file ≡ none → length (written n ts hs) ≤ length file
+  pub write-fits : write-trouble n ts hs gone file ≡ none → length (written n ts hs) ≤ length file
   unfolding write-trouble
   write-fits e =
-      let p = both-pass (network-tests n ts hs) (room-test (length (written n ts hs)) (length file) ∷ []) e in
+      let p = both-pass (network-tests n ts hs gone) (room-test (length (written n ts hs)) (length file) ∷ []) e in
       ltb-false _ _ (passes (ltb (length file) (length (written n ts hs))) _ _ (p .1) .0)
 
   -- A refusal leaves the list as it came.
-  pub write-bad : (t : Trouble) → write-trouble n ts hs file ≡ some t
-      → Write-promise n ts hs file file (write-told (WriteAnswer.Refused t))
+  pub write-bad : (t : Trouble) → write-trouble n ts hs gone file ≡ some t
+      → Write-promise n ts hs gone file file (write-told (WriteAnswer.Refused t))
   write-bad t e = record { told-is = rw e; bytes = rw e }
 
   -- A network without a trouble is written into it.
-  pub write-done : (k : ℕ) (file' : List ℕ) → write-trouble n ts hs file ≡ none → k ≡ length (written n ts hs)
-      → file' ≡ over (written n ts hs) file → Write-promise n ts hs file file' (write-told (WriteAnswer.Done k))
+  pub write-done : (k : ℕ) (file' : List ℕ) → write-trouble n ts hs gone file ≡ none → k ≡ length (written n ts hs)
+      → file' ≡ over (written n ts hs) file → Write-promise n ts hs gone file file' (write-told (WriteAnswer.Done k))
   write-done k file' e l w = record { told-is = rw (e, l); bytes = rw e w }

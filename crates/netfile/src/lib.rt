@@ -36,12 +36,19 @@ pub fn read(file: &[u8], tails: &mut [u16], heads: &mut [u16]) -> ReadAnswer
 }
 
 // Writing a network into a lent list of bytes: the file's length, or the first trouble. Nothing is put in before the
-// network and the room for it are found good.
-pub fn write(zones: usize, tails: &[u16], heads: &[u16], file: &mut [u8]) -> WriteAnswer
-    ensures { λ r. ⌜ Write-promise zones (now (tails .entry)) (now (heads .entry))
+// network, with its withdrawn numbers, and the room for it are found good. The file holds no withdrawn numbers.
+pub fn write(
+    zones: usize,
+    tails: &[u16],
+    heads: &[u16],
+    gone: &[u16],
+    file: &mut [u8],
+) -> WriteAnswer
+    ensures { λ r. ⌜ Write-promise zones (now (tails .entry)) (now (heads .entry)) (now (gone .entry))
         (now (file .entry)) (now (file .exit)) (write-told r) ⌝ }
 {
-    let found = intake::network(zones, tails, heads);
+    let taken = intake::network(zones, tails, heads, gone);
+    let found = taken.found;
     if let Tested::Refused(t) = found {
         return WriteAnswer::Refused(t);
     }

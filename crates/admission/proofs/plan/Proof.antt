@@ -2,7 +2,7 @@
 use borrow.Author.Needs.{needs}
 use Rattle.rules.specs.Calls.{plan-trouble}
 use Rattle.probes.proofs.Chains.{found-on}
-use Rattle.intake.proofs.Counts.{counted}
+use Rattle.intake.proofs.Counts.{counted, taken-on}
 use Rattle.admission.proofs.plan.Statement.{statement}
 use Rattle.admission.proofs.plan.Tie as tie
 
@@ -10,7 +10,7 @@ network-requires : tie.Need-network-requires
 network-requires c κs = search needs
 
 work-requires : tie.Need-work-requires
-work-requires c κs = counted _ _ _ (c .network .ensures)
+work-requires c κs = counted (c .network .ensures)
 
 room-requires : tie.Need-room-requires
 room-requires c κs = search needs
@@ -27,7 +27,7 @@ returns c =
     let t = c .before in
     let f = t .before in
     let w = f .before in
-    found-on (w .before .network .ensures)
+    taken-on (w .before .network .ensures)
     (found-on (w .work .ensures)
     (found-on (f .room .ensures) (found-on (t .room2 .ensures) (c .room3 .ensures)))) .first
 

@@ -2,7 +2,7 @@
 use borrow.Author.Needs.{needs}
 use Rattle.rules.specs.Calls.{skeleton-trouble}
 use Rattle.probes.proofs.Chains.{found-on}
-use Rattle.intake.proofs.Counts.{counted}
+use Rattle.intake.proofs.Counts.{counted, taken-on}
 use Rattle.admission.proofs.skeleton.Statement.{statement}
 use Rattle.admission.proofs.skeleton.Tie as tie
 
@@ -10,7 +10,7 @@ network-requires : tie.Need-network-requires
 network-requires c κs = search needs
 
 work-requires : tie.Need-work-requires
-work-requires c κs = counted _ _ _ (c .network .ensures)
+work-requires c κs = counted (c .network .ensures)
 
 room-requires : tie.Need-room-requires
 room-requires c κs = search needs
@@ -23,7 +23,7 @@ unfolding skeleton-trouble
 returns c =
     let t = c .before in
     let w = t .before in
-    found-on (w .before .network .ensures)
+    taken-on (w .before .network .ensures)
     (found-on (w .work .ensures) (found-on (t .room .ensures) (c .room2 .ensures))) .first
 
 pub skeleton-spec : {M : Type 1} → statement M

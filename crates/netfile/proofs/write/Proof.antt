@@ -11,7 +11,7 @@ use Rattle.theory.proofs.Ground.ArcLists.{arcs-length}
 use Rattle.theory.proofs.Files.NumberLaws.{length-bounds}
 use Rattle.filebytes.proofs.WrittenFile.{arcs-short, written-length}
 use Rattle.netfile.proofs.Kept.{write-found, write-fits, write-bad, write-done}
-use Rattle.theory.proofs.Files.Accepting.{Fine, fine, fine-few}
+use Rattle.theory.proofs.Files.Accepting.{Fine, fine-with, fine-few}
 use Rattle.probes.specs.Tested.{Found-by, tested-trouble}
 use Rattle.probes.proofs.Chains.{found-stays, found-goes-on, found-says}
 use Rattle.rules.specs.Calls.{arcs-of, room-test, written, write-trouble}
@@ -27,9 +27,9 @@ enum-known-found c = search needs
 returns : tie.Need-returns
 returns c =
     let l = c .before .before .before in
-    let a = l .before .before .before .before .args in
-    write-bad _ _ _ _ _
-    (write-found (a .zones) (a .tails .now) (a .heads .now) (a .file .now) (l .network .ensures)
+    let a = l .before .before .before .before .before .args in
+    write-bad _ _ _ _ _ _
+    (write-found (a .zones) (a .tails .now) (a .heads .now) (a .gone .now) (a .file .now) (l .network .ensures .found-by)
     (found-stays _ (c .before .found .given .1)))
 
 -- the network passed its tests
@@ -38,14 +38,14 @@ Here = tie.After-enum-told
 
 -- the function's entry
 abbrev entry : Here → tie.Start
-entry c = c .before .before .before .before .before .before
+entry c = c .before .before .before .before .before .before .before
 
 -- so it is fine
 fine-here : (c : Here) → let a = entry c .args in Fine (a .zones) (a .tails .now) (a .heads .now)
 fine-here c =
     let a = entry c .args in
-    fine (a .zones) (a .tails .now) (a .heads .now)
-    (found-says (c .before .before .network .ensures) (c .enum-told .given .1))
+    fine-with (a .zones) (a .tails .now) (a .heads .now) (a .gone .now)
+    (found-says (c .before .before .network .ensures .found-by) (c .enum-told .given .1)) .fine
 
 -- the file's length was found
 abbrev Measured : Type 0
@@ -68,11 +68,11 @@ length-is c =
 -- what was found is WRITE's trouble
 found : (c : tie.After-room) →
     let a = entry (here (c .before)) .args in
-    write-trouble (a .zones) (a .tails .now) (a .heads .now) (a .file .now) ≡ tested-trouble (c .room .result)
+    write-trouble (a .zones) (a .tails .now) (a .heads .now) (a .gone .now) (a .file .now) ≡ tested-trouble (c .room .result)
 found c =
     let h = here (c .before) in
     let a = entry h .args in
-    write-found (a .zones) (a .tails .now) (a .heads .now) (a .file .now) (h .before .before .network .ensures)
+    write-found (a .zones) (a .tails .now) (a .heads .now) (a .gone .now) (a .file .now) (h .before .before .network .ensures .found-by)
     (found-goes-on (h .enum-told .given .1)
     (subst (λ (k : ℕ). Found-by (room-test k (length (a .file .now)) ∷ []) (c .room .result))
     (length-is (c .before)) (c .room .ensures)))
@@ -80,7 +80,7 @@ found c =
 -- there is none
 none-here : (c : tie.After-enum-told2) →
     let a = entry (here (c .before .before .before)) .args in
-    write-trouble (a .zones) (a .tails .now) (a .heads .now) (a .file .now) ≡ none
+    write-trouble (a .zones) (a .tails .now) (a .heads .now) (a .gone .now) (a .file .now) ≡ none
 none-here c = found (c .before .before) ∙ ap tested-trouble (c .enum-told2 .given .1)
 
 enum-told : tie.Need-enum-told
@@ -121,7 +121,7 @@ enum-known-roomy c = search needs
 returns-2 : tie.Need-returns-2
 returns-2 c =
     let d = c .before .before .before in
-    write-bad _ _ _ _ _ (found d ∙ ap tested-trouble (c .before .roomy .given .1))
+    write-bad _ _ _ _ _ _ (found d ∙ ap tested-trouble (c .before .roomy .given .1))
 
 enum-told-2 : tie.Need-enum-told-2
 enum-told-2 c = search needs
@@ -133,7 +133,7 @@ write-file-requires c κs =
     let a = entry h .args in
     let f = fine-here h in (
       (f .accepted .zones-most, (f .paired, fine-few f)),
-      write-fits (a .zones) (a .tails .now) (a .heads .now) (a .file .now) (none-here d),
+      write-fits (a .zones) (a .tails .now) (a .heads .now) (a .gone .now) (a .file .now) (none-here d),
     )
 
 same-length : tie.Need-same-length
@@ -145,7 +145,7 @@ returns-3 c =
     let d = p .before .before in
     let m = d .before .before .before in
     let a = entry (here m) .args in
-    write-done (a .zones) (a .tails .now) (a .heads .now) (a .file .now) _ _ (none-here d) (length-is m)
+    write-done (a .zones) (a .tails .now) (a .heads .now) (a .gone .now) (a .file .now) _ _ (none-here d) (length-is m)
     (p .write-file .ensures)
 
 pub write-spec : {M : Type 1} → statement M
