@@ -37,7 +37,8 @@ module _ (n : ℕ) (gone : ℕ → Bool) (i : ℕ) (ts hs : List ℕ) where
 
   -- The trouble of an arc is the first.
   pub rest-bad : {r : Trouble} → i < length ts → i < length hs
-      → first-trouble (arc-tests n i (getD ts i 0 ⟶ getD hs i 0) gone) ≡ some r → first-trouble (rest n gone i ts hs) ≡ some r
+      → first-trouble (arc-tests n i (getD ts i 0 ⟶ getD hs i 0) gone) ≡ some r
+      → first-trouble (rest n gone i ts hs) ≡ some r
   rest-bad p q e =
       ap first-trouble (rest-cons p q)
       ∙ first-trouble-stays (arc-tests n i (getD ts i 0 ⟶ getD hs i 0) gone) (rest n gone (i + 1) ts hs) e

@@ -2,7 +2,7 @@
 // tests find, so that a call is tested by a chain of them (crates `intake` and `admission`). A new test is a line here.
 ghost use mathlib.Core.Path.{_≡_};
 ghost use mathlib.Core.List.{[], _∷_};
-ghost use mathlib.Core.Bool.{Bool, _||_};
+ghost use mathlib.Core.Bool.{_||_};
 ghost use Rattle.rules.specs.Network.{_⟶_};
 ghost use Rattle.rules.specs.File.{zones-bad};
 ghost use Rattle.rules.specs.Calls.{test, arc-tests, question-tests, room-test};

@@ -26,8 +26,10 @@ loop-holds : tie.Need-loop-holds Inv-loop μ-loop
 loop-holds c = (search needs, refl)
 
 -- the tests of the arc at i
-abbrev arc-here : ℕ → List ℕ → ℕ → List ℕ → List ℕ → List Test
-arc-here n gone i ts hs = arc-tests n i (getD ts i 0 ⟶ getD hs i 0) (held gone)
+abbrev arc-here : tie.Start Inv-loop μ-loop → ℕ → List Test
+arc-here s i =
+    let a = s .args in
+    arc-tests (a .zones) i (getD (a .tails .now) i 0 ⟶ getD (a .heads .now) i 0) (held (a .gone .now))
 
 mul-arc : tie.Need-mul-arc Inv-loop μ-loop
 mul-arc c = search needs
@@ -49,13 +51,16 @@ enum-known-r c = search needs
 
 returns : tie.Need-returns Inv-loop μ-loop
 returns c =
-    let a = c .before .before .before .before .before .before .before .before .before .before .args in
+    let s = c .before .before .before .before .before .before .before .before .before .before in
+    let a = s .args in
     let l = c .before .before .before .before .before .before .before .loop in
-    let e = found-says {xs = arc-here (a .zones) (a .gone .now) (l .i) (a .tails .now) (a .heads .now)} (c .before .before .before .arc .ensures) (c .before .r .given .1) in
+    let e = found-says {xs = arc-here s (l .i)} (c .before .before .before .arc .ensures) (c .before .r .given .1) in
     record {
       first =
           sym
-          (l .inv .1 ∙ rest-bad (a .zones) (held (a .gone .now)) (l .i) (a .tails .now) (a .heads .now) (omega arith) (omega arith) e);
+          (l .inv .1
+          ∙ rest-bad (a .zones) (held (a .gone .now)) (l .i) (a .tails .now) (a .heads .now) (omega arith) (omega arith)
+          e);
     }
 
 enum-told : tie.Need-enum-told Inv-loop μ-loop
@@ -69,18 +74,22 @@ loop-less c = search needs
 
 loop-again : tie.Need-loop-again Inv-loop μ-loop
 loop-again c =
-    let a = c .before .before .before .before .before .before .before .before .before .args in
+    let s = c .before .before .before .before .before .before .before .before .before in
+    let a = s .args in
     let l = c .before .before .before .before .before .before .loop in
-    let e = found-says {xs = arc-here (a .zones) (a .gone .now) (l .i) (a .tails .now) (a .heads .now)} (c .before .before .arc .ensures) (c .enum-told .given .1) in (
+    let e = found-says {xs = arc-here s (l .i)} (c .before .before .arc .ensures) (c .enum-told .given .1) in (
       search needs,
-      l .inv .1 ∙ rest-fine (a .zones) (held (a .gone .now)) (l .i) (a .tails .now) (a .heads .now) (omega arith) (omega arith) e,
+      l .inv .1
+          ∙ rest-fine (a .zones) (held (a .gone .now)) (l .i) (a .tails .now) (a .heads .now)
+          (omega arith) (omega arith) e,
     )
 
 returns-2 : tie.Need-returns-2 Inv-loop μ-loop
 returns-2 c =
     let a = c .before .before .before .before .args in
     let l = c .before .loop in
-    record { first = sym (l .inv .1 ∙ rest-none (a .zones) (held (a .gone .now)) (l .i) (a .tails .now) (a .heads .now) (omega arith)) }
+    let none-left = rest-none (a .zones) (held (a .gone .now)) (l .i) (a .tails .now) (a .heads .now) (omega arith) in
+    record { first = sym (l .inv .1 ∙ none-left) }
 
 pub arcs-spec : {M : Type 1} → statement M
 arcs-spec =

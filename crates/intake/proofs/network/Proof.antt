@@ -21,7 +21,8 @@ entry c = c .before .before .before .before .before .before
 
 -- so they have no trouble
 none-here : (c : Here) →
-    let a = entry c .args in first-trouble (first-tests (a .zones) (a .tails .now) (a .heads .now) (a .gone .now)) ≡ none
+    let a = entry c .args in
+    first-trouble (first-tests (a .zones) (a .tails .now) (a .heads .now) (a .gone .now)) ≡ none
 none-here c = found-says (c .before .before .first-tests .ensures) (c .enum-told .given .1)
 
 fill-requires : tie.Need-fill-requires
@@ -41,7 +42,8 @@ returns-2 c =
     let h = f .before in
     let a = entry h .args in
     let filled = f .fill .ensures in
-    let told = arcs-told (a .zones) (arcs-of (a .tails .now) (a .heads .now)) (a .gone .now) _ filled (c .arcs .ensures) in
+    let es = arcs-of (a .tails .now) (a .heads .now) in
+    let told = arcs-told (a .zones) es (a .gone .now) _ filled (c .arcs .ensures) in
     record {
       found-by =
           network-told (a .zones) (a .tails .now) (a .heads .now) (a .gone .now)

@@ -29,8 +29,8 @@ returns c =
     let l = c .before .before .before in
     let a = l .before .before .before .before .before .args in
     write-bad _ _ _ _ _ _
-    (write-found (a .zones) (a .tails .now) (a .heads .now) (a .gone .now) (a .file .now) (l .network .ensures .found-by)
-    (found-stays _ (c .before .found .given .1)))
+    (write-found (a .zones) (a .tails .now) (a .heads .now) (a .gone .now) (a .file .now)
+    (l .network .ensures .found-by) (found-stays _ (c .before .found .given .1)))
 
 -- the network passed its tests
 abbrev Here : Type 0
@@ -68,11 +68,13 @@ length-is c =
 -- what was found is WRITE's trouble
 found : (c : tie.After-room) →
     let a = entry (here (c .before)) .args in
-    write-trouble (a .zones) (a .tails .now) (a .heads .now) (a .gone .now) (a .file .now) ≡ tested-trouble (c .room .result)
+    write-trouble (a .zones) (a .tails .now) (a .heads .now) (a .gone .now) (a .file .now)
+    ≡ tested-trouble (c .room .result)
 found c =
     let h = here (c .before) in
     let a = entry h .args in
-    write-found (a .zones) (a .tails .now) (a .heads .now) (a .gone .now) (a .file .now) (h .before .before .network .ensures .found-by)
+    write-found (a .zones) (a .tails .now) (a .heads .now) (a .gone .now) (a .file .now)
+    (h .before .before .network .ensures .found-by)
     (found-goes-on (h .enum-told .given .1)
     (subst (λ (k : ℕ). Found-by (room-test k (length (a .file .now)) ∷ []) (c .room .result))
     (length-is (c .before)) (c .room .ensures)))

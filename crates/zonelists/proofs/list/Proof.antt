@@ -26,11 +26,12 @@ entry c = c .before .before .before
 loop-again : tie.Need-loop-again Inv-loop μ-loop
 loop-again c =
     let l = c .before .before .before .before in
-    let a = entry l .args in (
+    let a = entry l .args in
+    let e = c .before in
+    let inside = e .before .before .loop-test .taken in (
       search needs,
       l .loop .inv .1
-          ∙ rest-next (a .zones) (l .loop .i) (l .loop .low) (a .list .now) (c .before .before .before .loop-test .taken)
-          (c .before .if1 .left) (c .if2 .left),
+          ∙ rest-next (a .zones) (l .loop .i) (l .loop .low) (a .list .now) inside (e .if1 .left) (c .if2 .left),
     )
 
 returns-2 : tie.Need-returns-2 Inv-loop μ-loop

@@ -1,5 +1,5 @@
--- `zoneset::has` meets its contract: a number that has no word is not held, and of another the shifted word's lowest bit
--- is the number's. Assumes nothing.
+-- `zoneset::has` meets its contract: a number that has no word is not held, and of another the shifted word's lowest
+-- bit is the number's. Assumes nothing.
 use borrow.Author.Needs.{needs}
 use mathlib.Core.Path.{sym}
 use Prim.Native.Nat.{_/_, _%_}
