@@ -63,9 +63,14 @@ fn brought(call: Call, zones: usize, tails: &[u16], heads: &[u16], gone: &[u16])
 }
 
 // Brings a network of n arcs to a call. The list `gone` has how many numbers are withdrawn, and then these.
-fn cut(call: Call, zones: usize, arcs: Arcs, n: usize, gone: [u16; 10]) -> Outcome {
-    let tails = arcs.tails;
-    let heads = arcs.heads;
+fn cut(
+    call: Call,
+    zones: usize,
+    tails: [u16; 10],
+    heads: [u16; 10],
+    n: usize,
+    gone: [u16; 10],
+) -> Outcome {
     let k = least(n, 10);
     let withdrawn = least(gone[0] as usize, 9);
     brought(
@@ -79,6 +84,15 @@ fn cut(call: Call, zones: usize, arcs: Arcs, n: usize, gone: [u16; 10]) -> Outco
 
 // Brings a row's network to a call.
 pub fn network(call: Call, head: [u16; 10], given: [u16; 10], gone: [u16; 10]) -> Outcome {
-    let arcs = split_arcs(given);
-    cut(call, head[2] as usize, arcs, head[3] as usize, gone)
+    let a = split_arcs(given);
+    let tails = a.tails;
+    let heads = a.heads;
+    cut(
+        call,
+        head[2] as usize,
+        tails,
+        heads,
+        head[3] as usize,
+        gone,
+    )
 }

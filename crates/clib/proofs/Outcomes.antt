@@ -28,24 +28,27 @@ read-once a b = (
 )
 
 -- linkplan_write: bytes, answer
-pub write-once : {n : ℕ} {ts hs file : List ℕ} {s t e f : List ℕ} → C-promise (Write-promise n ts hs file s) e
-    → C-promise (Write-promise n ts hs file t) f → (s ≡ t) × (e ≡ f)
+pub write-once : {n : ℕ} {ts hs gone file : List ℕ} {s t e f : List ℕ}
+    → C-promise (Write-promise n ts hs gone file s) e
+    → C-promise (Write-promise n ts hs gone file t) f → (s ≡ t) × (e ≡ f)
 write-once a b = (both (a .kept .bytes) (b .kept .bytes), eights a b (a .kept .told-is) (b .kept .told-is))
 
 -- linkplan_strong: work memory, answer
-pub strong-once : {n : ℕ} {ts hs w : List ℕ} {v x e f : List ℕ} → C-promise (Strong-promise n ts hs w v) e
-    → C-promise (Strong-promise n ts hs w x) f → (v ≡ x) × (e ≡ f)
+pub strong-once : {n : ℕ} {ts hs gone w : List ℕ} {v x e f : List ℕ}
+    → C-promise (Strong-promise n ts hs gone w v) e
+    → C-promise (Strong-promise n ts hs gone w x) f → (v ≡ x) × (e ≡ f)
 strong-once a b = (both (a .kept .work) (b .kept .work), eights a b (a .kept .told-is) (b .kept .told-is))
 
 -- linkplan_reach: work memory, answer
-pub reach-once : {n : ℕ} {ts hs : List ℕ} {from to : ℕ} {w : List ℕ} {v x e f : List ℕ}
-    → C-promise (Reach-promise n ts hs from to w v) e → C-promise (Reach-promise n ts hs from to w x) f
+pub reach-once : {n : ℕ} {ts hs gone : List ℕ} {from to : ℕ} {w : List ℕ} {v x e f : List ℕ}
+    → C-promise (Reach-promise n ts hs gone from to w v) e → C-promise (Reach-promise n ts hs gone from to w x) f
     → (v ≡ x) × (e ≡ f)
 reach-once a b = (both (a .kept .work) (b .kept .work), eights a b (a .kept .told-is) (b .kept .told-is))
 
 -- linkplan_skeleton: tails, heads, work memory, answer
-pub skeleton-once : {n : ℕ} {ts hs ots ohs w : List ℕ} {t u h i v x e f : List ℕ}
-    → C-promise (Skeleton-promise n ts hs ots ohs w t h v) e → C-promise (Skeleton-promise n ts hs ots ohs w u i x) f
+pub skeleton-once : {n : ℕ} {ts hs gone ots ohs w : List ℕ} {t u h i v x e f : List ℕ}
+    → C-promise (Skeleton-promise n ts hs gone ots ohs w t h v) e
+    → C-promise (Skeleton-promise n ts hs gone ots ohs w u i x) f
     → (t ≡ u) × (h ≡ i) × (v ≡ x) × (e ≡ f)
 skeleton-once a b = (
   both (a .kept .tails) (b .kept .tails),
@@ -55,9 +58,9 @@ skeleton-once a b = (
 )
 
 -- linkplan_plan: from, to, why, work memory, answer
-pub plan-once : {n : ℕ} {ts hs from to why w : List ℕ} {p q r s y z v x e f : List ℕ}
-    → C-promise (Plan-promise n ts hs from to why w p r y v) e
-    → C-promise (Plan-promise n ts hs from to why w q s z x) f
+pub plan-once : {n : ℕ} {ts hs gone from to why w : List ℕ} {p q r s y z v x e f : List ℕ}
+    → C-promise (Plan-promise n ts hs gone from to why w p r y v) e
+    → C-promise (Plan-promise n ts hs gone from to why w q s z x) f
     → (p ≡ q) × (r ≡ s) × (y ≡ z) × (v ≡ x) × (e ≡ f)
 plan-once a b = (
   both (a .kept .from-left) (b .kept .from-left),

@@ -78,7 +78,7 @@ module _ (n : ℕ) (ts hs starts ends whys work : List ℕ)
   need-most =
       omega (
         arith,
-        need-few (fine-proper n ts hs network-fine),
+        need-few (handed n ts hs),
         span-length 0 n,
         network-fine .accepted .zones-most,
       )

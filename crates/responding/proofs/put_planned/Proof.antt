@@ -16,7 +16,7 @@ called c = c .before .before .before .before .before .before .before .before
 
 -- the function's entry
 abbrev entry : tie.After-plan → tie.Start
-entry c = c .before .before .before .before .before .before .before .before
+entry c = c .before .before .before .before .before .before .before .before .before
 
 -- what is put for the answer fits, and is the lines of the plan
 made : (d : tie.After-plan) →
@@ -43,6 +43,9 @@ slice-aggregate-plan-3 c = search needs
 
 slice-aggregate-plan-4 : tie.Need-slice-aggregate-plan-4
 slice-aggregate-plan-4 c = search needs
+
+slice-aggregate-plan-5 : tie.Need-slice-aggregate-plan-5
+slice-aggregate-plan-5 c = search needs
 
 plan-requires : tie.Need-plan-requires
 plan-requires c κs = search needs
@@ -75,6 +78,7 @@ put-planned-spec =
     slice-aggregate-plan-2
     slice-aggregate-plan-3
     slice-aggregate-plan-4
+    slice-aggregate-plan-5
     plan-requires
     slice-aggregate-put-answer
     slice-aggregate-put-answer-2
