@@ -37,7 +37,14 @@ fn split_arcs(given: [u16; 10]) -> Arcs {
 }
 
 // Asks about two zones of a network.
-fn reached(zones: usize, tails: &[u16], heads: &[u16], gone: &[u16], from: u16, to: u16) -> Outcome {
+fn reached(
+    zones: usize,
+    tails: &[u16],
+    heads: &[u16],
+    gone: &[u16],
+    from: u16,
+    to: u16,
+) -> Outcome {
     let mut work = [lent::SEVEN; 170];
     let answer = network::reach(
         zones,
@@ -87,12 +94,5 @@ pub fn network(call: Call, head: [u16; 10], given: [u16; 10], gone: [u16; 10]) -
     let a = split_arcs(given);
     let tails = a.tails;
     let heads = a.heads;
-    cut(
-        call,
-        head[2] as usize,
-        tails,
-        heads,
-        head[3] as usize,
-        gone,
-    )
+    cut(call, head[2] as usize, tails, heads, head[3] as usize, gone)
 }

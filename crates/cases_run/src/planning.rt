@@ -55,13 +55,7 @@ pub fn unset() -> [Link; 10]
 }
 
 // Asks PLAN over ten records, at least two more than there are zones.
-fn ask_records(
-    zones: usize,
-    tails: &[u16],
-    heads: &[u16],
-    gone: &[u16],
-    work: &mut [u16],
-) -> Asked
+fn ask_records(zones: usize, tails: &[u16], heads: &[u16], gone: &[u16], work: &mut [u16]) -> Asked
     ensures { λ r. ⌜ Records-promise zones (now (tails .entry)) (now (heads .entry)) (now (gone .entry)) unset-links
         (now (work .entry)) (r .links) (now (work .exit)) (plan-told (r .answer)) ⌝ }
 {

@@ -21,7 +21,7 @@ use Rattle.rules.specs.Plan.{pairing, is-upright, ordering, upright-plan}
 use Rattle.memory.specs.Regions.{part, Holds}
 use Rattle.memory.proofs.Regions.{holds-apart}
 use Rattle.arranged.specs.Arranged.{Between}
-use Rattle.arranged.proofs.ArrangedLaws.{at-in}
+use Rattle.theory.proofs.Ground.Indices.{at-in}
 use Rattle.search.proofs.Laying.{arranged-laid}
 use Rattle.theory.proofs.Ground.Ascending.{network-proper}
 use Rattle.theory.proofs.Reaching.Reach.{reaches-arcs}
@@ -39,7 +39,7 @@ use Rattle.links.specs.Linking.{links-in, Held, Linkable, Links-put}
 use Rattle.links.proofs.Standing.{links-held}
 use Rattle.sides.specs.Sides.{Tallied, Tally}
 use Rattle.connect.specs.Connect.{Connectable, Connected}
-use Rattle.connect.proofs.Few.{kinds-few, need-few, zones-few, weak-sum}
+use Rattle.theory.proofs.Planning.Few.{kinds-few, need-few, zones-few, weak-sum}
 
 module _ (w : List ℕ) (d : Side) (s t q : ℕ) (N : Network) (C : Connectable w d s t q N) where
   -- how many rows there are

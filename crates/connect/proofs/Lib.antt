@@ -1,3 +1,2 @@
--- Laws of how many components there are of each kind, and of connecting them.
-pub mod Few
+-- Laws of connecting the sources and the sinks of a side.
 mod Connecting

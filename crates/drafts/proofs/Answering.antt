@@ -17,7 +17,6 @@ use Rattle.rules.specs.declared.PlanAnswer.{PlanAnswer}
 use Rattle.rules.specs.declared.Trouble.{Trouble}
 use Rattle.rules.specs.Lists.{cleared}
 use Rattle.rules.specs.Answers.{plan-told}
-use Rattle.rules.specs.Components.{sources, sinks, alone}
 use Rattle.rules.specs.Plan.{plan}
 use Rattle.rules.specs.Calls.{network-tests, room-test, asked-work, handed-with, records-trouble}
 use Rattle.rules.specs.Promises.{Records-promise}

@@ -1,8 +1,6 @@
 // A plan for records, as a draft: it stands in the work memory, in columns, and is handed out from there. The tests
 // and the laying come first; once the records are stored, the work memory is cleared.
 ghost use mathlib.Core.Path.{_≡_};
-ghost use Prim.Native.Nat.{_≤_};
-ghost use lib.ListN.{length};
 ghost use Rattle.drafts.specs.Drafts.{need-of, Finishable, finished, Drafted};
 use figures::answer_of;
 use laying::lay;

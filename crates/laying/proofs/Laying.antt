@@ -29,7 +29,7 @@ use Rattle.sides.specs.Standing.{Columns}
 use Rattle.sides.specs.Sides.{Rule-side}
 use Rattle.connect.specs.declared.Connection.{Connection}
 use Rattle.connect.specs.Connect.{Connectable, Connected}
-use Rattle.connect.proofs.Few.{kinds-few, need-few, zones-few, sum-strong, sum-weak}
+use Rattle.theory.proofs.Planning.Few.{kinds-few, need-few, zones-few, sum-strong, sum-weak}
 use Rattle.survey.specs.Survey.{Surveyed}
 use Rattle.laying.specs.Layout.{layout-of, Laid-out}
 use Rattle.laying.proofs.Upright.{upright-weak, upright-sources, upright-sinks, upright-alone}

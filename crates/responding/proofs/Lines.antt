@@ -28,7 +28,7 @@ use Rattle.theory.proofs.Files.Troubles.{both-pass}
 use Rattle.theory.proofs.Demands.Calls.{Link-lists, Plan-call}
 use Rattle.theory.proofs.Demands.Answers.{plan-done-when, plan-refused-when}
 use Rattle.theory.proofs.Demands.Plans.{plan-leaves}
-use Rattle.connect.proofs.Few.{need-few}
+use Rattle.theory.proofs.Planning.Few.{need-few}
 use Rattle.buffer.specs.Put.{put, Written}
 use Rattle.lines.specs.Lines.{lines-of}
 use Rattle.text.specs.Texts.{plan-text, Putable, figures, answer-lines}
@@ -57,7 +57,7 @@ column-fits : (f : Link → ℕ) (ls : List Link) (old : List ℕ) {xs : List �
 column-fits f ls old e l =
     omega (arith, ap length e, length-append (map f ls) (drop (length (map f ls)) old), length-map ls f)
 
-module _ (n : ℕ) (ts hs starts ends whys work : List ℕ) 
+module _ (n : ℕ) (ts hs starts ends whys work : List ℕ)
     (e : plan-trouble n ts hs [] starts ends whys work ≡ none) where
   -- the network handed in, with no zone withdrawn
   abbrev N : Network

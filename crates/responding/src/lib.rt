@@ -20,7 +20,16 @@ fn put_planned(zones: usize, tails: &[u16], heads: &[u16], out: &mut [u8]) -> us
     let mut to = [0u16; 1024];
     let mut why = [0u16; 1024];
     let mut work = [0u16; 28672];
-    let answer = plan::plan(zones, tails, heads, &gone, &mut from, &mut to, &mut why, &mut work);
+    let answer = plan::plan(
+        zones,
+        tails,
+        heads,
+        &gone,
+        &mut from,
+        &mut to,
+        &mut why,
+        &mut work,
+    );
     put_answer(zones, tails.len(), answer, &from, &to, &why, out)
 }
 

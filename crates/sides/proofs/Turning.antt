@@ -5,13 +5,14 @@
 --   columns-turned              where starts and ends are put in each other's places, the links stand turned back
 -- Each by going through the lists. Assumes nothing.
 use mathlib.Core.Path.{_≡_, refl, ap}
-use mathlib.Core.List.{List, [], _∷_, map, zipWith}
+use mathlib.Core.List.{List, [], _∷_, map}
 use Prim.Native.Nat.{ℕ, _+_, _≤_}
 use native.Mathlib.Omega.{arith}
 use lib.ListN.{length}
-use Rattle.rules.specs.Network.{Arc, _⟶_, Network}
+use Rattle.rules.specs.Network.{Network}
 use Rattle.rules.specs.Plan.{Link, why-number, turned, turned-link}
 use Rattle.rules.specs.Calls.{arcs-of, handed-with}
+use Rattle.theory.proofs.Ground.ArcLists.{arcs-exchanged}
 use Rattle.theory.proofs.Reaching.Turned.{turned-proper, turned-sources, turned-sinks, turned-alone}
 use Rattle.memory.specs.Regions.{Holds}
 use Rattle.arranged.specs.Arranged.{Arranged-at}
@@ -19,14 +20,6 @@ use Rattle.workmap.specs.declared.RowsAt.{RowsAt}
 use Rattle.workmap.specs.declared.ListsAt.{ListsAt}
 use Rattle.workmap.specs.declared.LinksAt.{LinksAt}
 use Rattle.sides.specs.Standing.{Side-stands, Columns}
-
--- arcs with heads and tails exchanged are turned round
-arcs-exchanged : (ts hs : List ℕ) → map (λ (e : Arc). e .head ⟶ e .tail) (arcs-of ts hs) ≡ arcs-of hs ts
-unfolding arcs-of zipWith
-arcs-exchanged [] [] = refl
-arcs-exchanged [] (h ∷ hs) = refl
-arcs-exchanged (t ∷ ts) [] = refl
-arcs-exchanged (t ∷ ts) (h ∷ hs) = ap {B = List Arc} (λ es. (h ⟶ t) ∷ es) (arcs-exchanged ts hs)
 
 -- the arcs of heads and tails exchanged are those of the network turned round
 pub handed-turned : (n : ℕ) (ts hs gone : List ℕ) → turned (handed-with n ts hs gone) .arcs ≡ arcs-of hs ts

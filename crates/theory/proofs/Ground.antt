@@ -2,6 +2,7 @@
 pub mod Bools
 pub mod Lists
 pub mod Keeping
+pub mod Indices
 pub mod Counting
 pub mod Ascending
 pub mod Few

@@ -3,6 +3,7 @@ pub mod Augment
 pub mod Pairing
 pub mod PlanStrong
 pub mod Fewest
+pub mod Few
 pub mod OrderingLinks
 pub mod PlanCount
 pub mod PlanSame

@@ -17,7 +17,7 @@ use Rattle.rules.specs.Network.{Above, Ascending, remaining}
 use Rattle.theory.proofs.Ground.Bools.{true-not-false}
 use Rattle.theory.proofs.Withdrawn.Remaining.{true-listed, false-listed, remaining-in, in-remaining}
 use Rattle.memory.proofs.Numbers.{below?}
-use Rattle.arranged.proofs.ArrangedLaws.{at-in, in-at}
+use Rattle.theory.proofs.Ground.Indices.{at-in, in-at}
 use Rattle.withdrawn.specs.Withdrawn.{Lowest}
 
 -- an element of a list that ascends from above a number

@@ -2,14 +2,13 @@
 --   none-held, beyond-held   zeros hold no number; one that has no word is not held
 --   put-held                 a word with one bit more holds one number more
 --   none-yet, put-listed     filling goes from the list's end: before its first turn, and one turn
---   at-in                    what stands at a place of a list is in the list
 --   one-test                 tests that say the same of every number are equal
 -- From the laws of bits; a number's word and bit are its quotient and its rest by 64. Assumes nothing.
 use mathlib.Core.Path.{_≡_, refl, sym, ap, ap₂, _∙_}
 use mathlib.Core.Bool.{Bool, true, false, _&&_, _||_}
-use mathlib.Core.List.{List, [], _∷_, List·Memᴰ as In, List·Memᴰ·head, List·Memᴰ·tail}
+use mathlib.Core.List.{List}
 use Prim.Native.Nat.{ℕ, zero, suc, _+_, _-_, _*_, _/_, _%_, _^_, _≤_, _<_}
-use native.Mathlib.Nat.{not-suc-le-zero, div-add-mod'}
+use native.Mathlib.Nat.{div-add-mod'}
 use native.Mathlib.Omega.{arith}
 use borrow.Author.Tests.{eqb-true, eq-eqb}
 use lib.Dec.{eqb}
@@ -77,12 +76,6 @@ put-listed xs i z b p h e =
     front : (t : Bool) → (t || any (eqb z) (drop i xs)) ≡ elim t [ true ↦ true | false ↦ any (eqb z) (drop i xs) ]
     front true = refl
     front false = refl
-
--- what stands at a place of a list is in the list
-pub at-in : (xs : List ℕ) (i : ℕ) → i < length xs → In (getD xs i 0) xs
-at-in [] i h = absurd (not-suc-le-zero h)
-at-in (x ∷ xs) zero h = List·Memᴰ·head refl
-at-in (x ∷ xs) (suc i) h = List·Memᴰ·tail (at-in xs i (omega arith))
 
 -- tests that say the same of every number are one test: so a definition over a test of numbers holds of either
 pub one-test : {f g : ℕ → Bool} → ((z : ℕ) → f z ≡ g z) → f ≡ g

@@ -213,8 +213,7 @@ module _ {M : Type 1} {𝓤 : URA M} {H : Heap 𝓤} {A : Atoms 𝓤} (W : Given
         enters W C Λ code.function locals (flat (typesAt (slots formals) κs) at) Post
         (naming (token tails ∷ token heads ∷ token gone ∷ token records ∷ token work ∷ []) (tokens 5 κs qs))
         (naming (rest ∷ owned tails ∷ owned heads ∷ owned gone ∷ owned records ∷ owned work ∷ [])
-        (owned-of (typesAt (slots formals) κs) a at)) refl
-        (
+        (owned-of (typesAt (slots formals) κs) a at)) refl (
           word n n-fits,
           (
             sized _ (ts-fit .0),

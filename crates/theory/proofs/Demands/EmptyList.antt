@@ -21,7 +21,7 @@ use Rattle.rules.specs.Network.{Arc, Network, arc-tails, arc-heads, reaches, st
 use Rattle.rules.specs.Skeleton.{skeleton}
 use Rattle.rules.specs.Plan.{link-starts, link-ends, link-whys, record-of, plan, plan-values}
 use Rattle.rules.specs.File.{zones-bad, arcs-bad}
-use Rattle.rules.specs.Calls.{Test, test, first-trouble, arcs-of, handed, handed-with, arcs-tests, network-tests}
+use Rattle.rules.specs.Calls.{Test, test, first-trouble, arcs-of, handed, arcs-tests, network-tests}
 use Rattle.rules.specs.Calls.{question-tests, room-test, work-test, says, leaves, leaves-work, written}
 use Rattle.rules.specs.Calls.{write-trouble, strong-trouble, reach-trouble, skeleton-trouble, plan-trouble}
 use Rattle.rules.specs.Calls.{records-trouble}

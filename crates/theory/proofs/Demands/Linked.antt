@@ -35,7 +35,8 @@ use Rattle.theory.proofs.Ground.Lists.{map-in}
 use Rattle.theory.proofs.Ground.Few.{two-in}
 use Rattle.theory.proofs.Ground.ArcLists.{arcs-length, arcs-join}
 use Rattle.theory.proofs.Reaching.Components.{names-zone}
-use Rattle.theory.proofs.Planning.Fewest.{need-fewest, need-few}
+use Rattle.theory.proofs.Planning.Fewest.{need-fewest}
+use Rattle.theory.proofs.Planning.Few.{need-few}
 use Rattle.theory.proofs.Planning.PlanStrong.{plan-strong}
 use Rattle.theory.proofs.Planning.PlanCount.{plan-length, plan-ends}
 use Rattle.theory.proofs.Planning.PlanSame.{SamePlan}
@@ -63,7 +64,7 @@ plan-smallest {i} a links need =
     let P = accepted-proper i a in
     record {
       count = ap length links ∙ length-map (plan N) link-arc ∙ plan-length P ∙ sym need;
-      few = rw need (need-few P);
+      few = rw need (need-few (network i));
       strong = rw links (plan-strong P);
       fewest = λ fs S. rw need (need-fewest P fs S);
       distinct = λ e m.

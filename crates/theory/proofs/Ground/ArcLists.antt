@@ -4,9 +4,10 @@
 --   arcs-split    the arcs of the tails and the heads of arcs are the arcs
 --   tails-again, heads-again   the tails and the heads of the arcs of two lists of one length are the lists
 --   arcs-join     the arcs of lists put one after the other are the arcs of both
+--   arcs-exchanged   with tails and heads exchanged the arcs are turned round
 -- By induction on the tails. Assumes nothing.
 use mathlib.Core.Path.{_≡_, refl, ap}
-use mathlib.Core.List.{List, [], _∷_, _++_, zipWith, List·Memᴰ as In, List·Memᴰ·head, List·Memᴰ·tail}
+use mathlib.Core.List.{List, [], _∷_, _++_, map, zipWith, List·Memᴰ as In, List·Memᴰ·head, List·Memᴰ·tail}
 use Prim.Native.Nat.{ℕ, zero, suc, _<_}
 use native.Mathlib.Nat.{not-suc-le-zero}
 use native.Mathlib.Omega.{arith}
@@ -59,3 +60,11 @@ arcs-join [] [] us vs e = refl
 arcs-join [] (h ∷ hs) us vs e = absurd (omega arith)
 arcs-join (t ∷ ts) [] us vs e = absurd (omega arith)
 arcs-join (t ∷ ts) (h ∷ hs) us vs e = ap (λ (l : List Arc). (t ⟶ h) ∷ l) (arcs-join ts hs us vs (omega arith))
+
+-- with tails and heads exchanged the arcs are turned round
+pub arcs-exchanged : (ts hs : List ℕ) → map (λ (e : Arc). e .head ⟶ e .tail) (arcs-of ts hs) ≡ arcs-of hs ts
+unfolding arcs-of zipWith
+arcs-exchanged [] [] = refl
+arcs-exchanged [] (h ∷ hs) = refl
+arcs-exchanged (t ∷ ts) [] = refl
+arcs-exchanged (t ∷ ts) (h ∷ hs) = ap {B = List Arc} (λ es. (h ⟶ t) ∷ es) (arcs-exchanged ts hs)

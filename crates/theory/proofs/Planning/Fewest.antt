@@ -3,12 +3,12 @@
 --   run-enters      a run from outside a set of zones into it has an arc that enters the set
 --   new-arc       each component that no arc enters needs a new arc into it
 --   fewest        the arcs that make a network strong are no fewer than max(s, t) + q
---   need-fewest   nor than the number that the plan's answer carries;   need-few   which is no more than the zones
+--   need-fewest   nor than the number that the plan's answer carries
 -- A source or a component alone has no arc in, and there is a zone outside it, which reaches it once the network is
 -- strong; so one of the new arcs enters it. An arc enters one component only, so the new arcs are no fewer than s + q.
 -- Turned round, the same says that they are no fewer than t + q. Assumes nothing.
 use Prim.Native.Nat.{ℕ, _+_, _≤_, max}
-use mathlib.Core.Path.{_≡_, refl, ap, subst, _∙_}
+use mathlib.Core.Path.{_≡_, ap, subst, _∙_}
 use mathlib.Core.Bool.{Bool, true, false}
 use mathlib.Core.Logic.{_⊎_, inl, inr}
 use mathlib.Core.List.{List, _++_, map, map-append, List·Memᴰ as In, List·Memᴰ·append-cases}
@@ -165,24 +165,4 @@ need-fewest {N} P es S =
     elim (bool-cases (strong N)) [
       | inl e ↦ rw (strong-needs-none N e) (omega arith)
       | inr weak ↦ rw (weak-need N weak) (fewest P weak es S)
-    ]
-
--- the components that no arc enters are no more than the zones
-shut-few : {N : Network} → Proper N → length (sources N) + length (alone N) ≤ length (N .zones)
-shut-few {N} P =
-    rw (← length-append (sources N) (alone N))
-    (answers-count (λ x. x) (shut-names N) (N .zones) (shut-distinct P)
-    (λ c m. (c, names-zone N (shut-kind N m .0) .0, refl)))
-
--- nor are those that no arc leaves, which no arc enters in the network turned round
-closed-few : {N : Network} → Proper N → length (sinks N) + length (alone N) ≤ length (N .zones)
-unfolding turned
-closed-few P = rw (← turned-sources P, ← turned-alone P) (shut-few (turned-proper P))
-
--- so the number of links is no more than the number of zones
-pub need-few : {N : Network} → Proper N → plan-need N ≤ length (N .zones)
-need-few {N} P =
-    elim (bool-cases (strong N)) [
-      | inl e ↦ rw (strong-needs-none N e) (omega arith)
-      | inr weak ↦ rw (weak-need N weak) (omega (arith, shut-few P, closed-few P))
     ]

@@ -7,7 +7,7 @@ use mathlib.Core.Path.{_≡_, subst}
 use mathlib.Core.List.{List}
 use lib.ListN.{length, getD, take}
 use lib.Seq.{take-length}
-use Rattle.arranged.proofs.ArrangedLaws.{at-in}
+use Rattle.theory.proofs.Ground.Indices.{at-in}
 use Rattle.withdrawn.specs.Withdrawn.{Stamped}
 use Rattle.withdrawn.proofs.Stamps.{stamped-none, stamped-more}
 use Rattle.withdrawn.proofs.stamp.Statement.{statement}

@@ -7,7 +7,8 @@ use Prim.Native.Nat.{ℕ, _≤_, _<_, _-_, _/_}
 use lib.ListN.{length, getD, drop, length-set}
 use Rattle.rules.specs.Lists.{listed}
 use Rattle.zoneset.specs.Held.{held}
-use Rattle.zoneset.proofs.SetLaws.{none-yet, put-held, put-listed, at-in}
+use Rattle.theory.proofs.Ground.Indices.{at-in}
+use Rattle.zoneset.proofs.SetLaws.{none-yet, put-held, put-listed}
 use Rattle.zoneset.proofs.fill.Statement.{statement}
 use Rattle.zoneset.proofs.fill.Tie as tie
 
