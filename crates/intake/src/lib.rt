@@ -18,6 +18,7 @@ use zonelists::list;
 use zoneset::ZoneSet;
 use zoneset::empty;
 use zoneset::fill;
+use zoneset::used;
 
 // What the tests of a network found, and its withdrawn zones, where they found no trouble.
 pub struct Intake {
@@ -43,7 +44,7 @@ fn first_tests(zones: usize, tails: &[u16], heads: &[u16], gone: &[u16]) -> Test
 }
 
 // The tests of the arcs, one after the other.
-fn arcs(zones: usize, tails: &[u16], heads: &[u16], gone: &ZoneSet) -> Tested
+fn arcs(zones: usize, tails: &[u16], heads: &[u16], gone: &[u64]) -> Tested
     requires { ⌜ length (now tails) ≡ length (now heads) ⌝ }
     ensures { λ r. ⌜ Found-by
         (arcs-tests zones 0 (arcs-of (now (tails .entry)) (now (heads .entry))) (held (now (gone .entry)))) r ⌝ }
@@ -71,7 +72,7 @@ pub fn network(zones: usize, tails: &[u16], heads: &[u16], gone: &[u16]) -> Inta
         };
     }
     let set = fill(gone);
-    let found = arcs(zones, tails, heads, &set);
+    let found = arcs(zones, tails, heads, &set[..used(gone)]);
     Intake {
         found: found,
         gone: set,

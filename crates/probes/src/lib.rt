@@ -10,7 +10,6 @@ ghost use Rattle.zoneset.specs.Held.{held};
 ghost use Rattle.probes.specs.Tested.{Found-by, Found-after};
 use rules::Trouble;
 use rules::TroubleKind;
-use zoneset::ZoneSet;
 use zoneset::has;
 
 // What tests find: no trouble, or the first one.
@@ -45,15 +44,18 @@ pub fn zones_bad(zones: usize) -> bool
     1024 < zones
 }
 
-// Whether one of two zones is withdrawn.
-fn either(gone: &ZoneSet, a: usize, b: usize) -> bool
+// Whether one of two zones is withdrawn. Where there is no word to look at, none is.
+fn either(gone: &[u64], a: usize, b: usize) -> bool
     ensures { λ r. ⌜ r ≡ (held (now (gone .entry)) a || held (now (gone .entry)) b) ⌝ }
 {
+    if gone.len() == 0 {
+        return false;
+    }
     has(gone, a) || has(gone, b)
 }
 
 // The tests of the arc of index `i`, with the withdrawn zones.
-pub fn arc(zones: usize, tail: u16, head: u16, gone: &ZoneSet, i: usize) -> Tested
+pub fn arc(zones: usize, tail: u16, head: u16, gone: &[u64], i: usize) -> Tested
     ensures { λ r. ⌜ Found-by (arc-tests zones i (tail ⟶ head) (held (now (gone .entry)))) r ⌝ }
 {
     let t = tail as usize;
@@ -71,7 +73,7 @@ pub fn question(
     before: Tested,
     zones: usize,
     arcs: usize,
-    gone: &ZoneSet,
+    gone: &[u64],
     from: usize,
     to: usize,
 ) -> Tested

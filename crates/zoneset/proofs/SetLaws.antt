@@ -2,6 +2,7 @@
 --   none-held, beyond-held   zeros hold no number; one that has no word is not held
 --   put-held                 a word with one bit more holds one number more
 --   none-yet, put-listed     filling goes from the list's end: before its first turn, and one turn
+--   none-suffice, all-suffice   of the set of an empty list no word has to be looked at; of any, all suffice
 --   one-test                 tests that say the same of every number are equal
 -- From the laws of bits; a number's word and bit are its quotient and its rest by 64. Assumes nothing.
 use mathlib.Core.Path.{_≡_, refl, sym, ap, ap₂, _∙_}
@@ -13,13 +14,14 @@ use native.Mathlib.Omega.{arith}
 use borrow.Author.Tests.{eqb-true, eq-eqb}
 use lib.Dec.{eqb}
 use lib.Bits.{bitOr}
-use lib.ListN.{length, getD, set, drop, replicate, List·getD-eq-default}
-use lib.Seq.{drop-cons, drop-length}
+use lib.ListN.{length, getD, set, take, drop, replicate, List·getD-eq-default}
+use lib.Seq.{drop-cons, drop-length, take-length}
 use Rattle.rules.specs.Lists.{any, listed}
 use Rattle.theory.proofs.Ground.Bools.{bool-agree, and-true, true-and}
+use Rattle.theory.proofs.Ground.Few.{length-none}
 use Rattle.bits.specs.Bits.{bit}
 use Rattle.bits.proofs.Numbers.{bit-none, bit-stored, one-shifted}
-use Rattle.zoneset.specs.Held.{held}
+use Rattle.zoneset.specs.Held.{held, Suffices}
 
 -- zeros hold no number
 pub none-held : (z : ℕ) → held (replicate 16 0) z ≡ false
@@ -76,6 +78,24 @@ put-listed xs i z b p h e =
     front : (t : Bool) → (t || any (eqb z) (drop i xs)) ≡ elim t [ true ↦ true | false ↦ any (eqb z) (drop i xs) ]
     front true = refl
     front false = refl
+
+-- of the set of an empty list no word has to be looked at
+pub none-suffice : (xs : List ℕ) → length xs ≡ 0 → Suffices xs 0
+unfolding held
+none-suffice xs e = record {
+  most = omega arith;
+  holds = λ ws l h z. bit-none (z % 64) ∙ sym (ap (λ (ys : List ℕ). listed ys z) (length-none xs e));
+}
+
+-- of any set, all words suffice
+pub all-suffice : (xs : List ℕ) → Suffices xs 16
+all-suffice xs = record {
+  most = omega arith;
+  holds = λ ws l h z. ap (λ (ys : List ℕ). held ys z) (take-all l) ∙ h z;
+}
+  where
+    take-all : {ws : List ℕ} → length ws ≡ 16 → take 16 ws ≡ ws
+    take-all {ws} l = rw (sym l) (take-length ws)
 
 -- tests that say the same of every number are one test: so a definition over a test of numbers holds of either
 pub one-test : {f g : ℕ → Bool} → ((z : ℕ) → f z ≡ g z) → f ≡ g

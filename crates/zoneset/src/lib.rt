@@ -1,14 +1,15 @@
-// A set of zone numbers below 1,024: sixteen words of 64 bits, made by value and read through a reference, so that no
-// look copies it. Whoever calls knows it by `held`, a function from numbers to yes or no.
+// A set of zone numbers below 1,024: sixteen words of 64 bits, made by value and read as a slice, so that no look copies
+// it. Whoever calls knows it by `held`, a function from numbers to yes or no.
 //   empty   the set with no number in it
 //   fill    the numbers of a list
+//   used    how many of its words have to be looked at
 //   has     whether a number is in the set
 ghost use mathlib.Core.Path.{_≡_};
 ghost use mathlib.Core.Bool.{false};
 ghost use mathlib.Core.List.{List·Memᴰ as In};
 ghost use Prim.Native.Nat.{ℕ, _<_};
 ghost use Rattle.rules.specs.Lists.{listed};
-ghost use Rattle.zoneset.specs.Held.{held};
+ghost use Rattle.zoneset.specs.Held.{held, Suffices};
 
 // A set of zone numbers below 1,024.
 pub type ZoneSet = [u64; 16];
@@ -36,11 +37,20 @@ pub fn fill(list: &[u16]) -> ZoneSet
     words
 }
 
-// Whether a number is in the set. A number that has no word is not.
-pub fn has(set: &ZoneSet, zone: usize) -> bool
-    ensures { λ r. ⌜ r ≡ held (now (set .entry)) zone ⌝ }
+// How many words of the set of a list have to be looked at: none where the list has no number.
+pub fn used(list: &[u16]) -> usize
+    ensures { λ r. ⌜ Suffices (now (list .entry)) r ⌝ }
 {
-    let words: &[u64] = set;
+    if list.len() == 0 {
+        return 0;
+    }
+    16
+}
+
+// Whether a number is in the set. A number that has no word is not.
+pub fn has(words: &[u64], zone: usize) -> bool
+    ensures { λ r. ⌜ r ≡ held (now (words .entry)) zone ⌝ }
+{
     if words.len() <= zone / 64 {
         return false;
     }

@@ -14,7 +14,7 @@ use Rattle.admission.proofs.reach.Tie as tie
 
 -- the network was taken in
 abbrev taken : tie.After-question → tie.After-network
-taken c = c .before .before .before
+taken c = c .before .before .before .before
 
 -- the function's entry
 abbrev entry : tie.After-network → tie.Start

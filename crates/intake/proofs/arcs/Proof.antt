@@ -51,7 +51,7 @@ enum-known-r c = search needs
 
 returns : tie.Need-returns Inv-loop μ-loop
 returns c =
-    let s = c .before .before .before .before .before .before .before .before .before .before in
+    let s = c .before .before .before .before .before .before .before .before .before .before .before in
     let a = s .args in
     let l = c .before .before .before .before .before .before .before .loop in
     let e = found-says {xs = arc-here s (l .i)} (c .before .before .before .arc .ensures) (c .before .r .given .1) in
@@ -74,7 +74,7 @@ loop-less c = search needs
 
 loop-again : tie.Need-loop-again Inv-loop μ-loop
 loop-again c =
-    let s = c .before .before .before .before .before .before .before .before .before in
+    let s = c .before .before .before .before .before .before .before .before .before .before in
     let a = s .args in
     let l = c .before .before .before .before .before .before .loop in
     let e = found-says {xs = arc-here s (l .i)} (c .before .before .arc .ensures) (c .enum-told .given .1) in (
@@ -86,7 +86,7 @@ loop-again c =
 
 returns-2 : tie.Need-returns-2 Inv-loop μ-loop
 returns-2 c =
-    let a = c .before .before .before .before .args in
+    let a = c .before .before .before .before .before .args in
     let l = c .before .loop in
     let none-left = rest-none (a .zones) (held (a .gone .now)) (l .i) (a .tails .now) (a .heads .now) (omega arith) in
     record { first = sym (l .inv .1 ∙ none-left) }

@@ -2,6 +2,9 @@
 -- can be a set, with which the arcs' tests are those of the rules. Assumes nothing.
 use mathlib.Core.Path.{_≡_, refl}
 use mathlib.Core.Option.{none}
+use native.Mathlib.Omega.{arith}
+use lib.ListN.{length}
+use lib.Seq.{length-take-le}
 use borrow.Author.Needs.{needs}
 use Rattle.rules.specs.Calls.{first-trouble, arcs-of}
 use Rattle.theory.proofs.Files.Troubles.{none-not-some}
@@ -30,20 +33,37 @@ fill-requires c κs =
     let a = entry c .args in
     first-below (a .zones) (a .tails .now) (a .heads .now) (a .gone .now) (none-here c)
 
+used-requires : tie.Need-used-requires
+used-requires c κs = search needs
+
+array-share-prefix-set : tie.Need-array-share-prefix-set
+array-share-prefix-set c = let most = c .used .ensures .most in search needs
+
+slice-aggregate-arcs : tie.Need-slice-aggregate-arcs
+slice-aggregate-arcs c =
+    let u = c .before in
+    let ws = u .before .fill .result in
+    let sixteen : length ws ≡ 16 = search needs in
+    let cut = length-take-le (u .used .result) ws (omega (arith, sixteen, u .used .ensures .most)) in
+    search needs
+
 arcs-requires : tie.Need-arcs-requires
 arcs-requires c κs =
-    let h = c .before .before in
+    let h = c .before .before .before in
     let a = entry h .args in
     first-paired (a .zones) (a .tails .now) (a .heads .now) (a .gone .now) (none-here h)
 
 returns-2 : tie.Need-returns-2
 returns-2 c =
-    let f = c .before .before in
+    let u = c .before .before in
+    let f = u .before in
     let h = f .before in
     let a = entry h .args in
     let filled = f .fill .ensures in
+    let sixteen : length (f .fill .result) ≡ 16 = search needs in
+    let looked = u .used .ensures .holds (f .fill .result) sixteen filled in
     let es = arcs-of (a .tails .now) (a .heads .now) in
-    let told = arcs-told (a .zones) es (a .gone .now) _ filled (c .arcs .ensures) in
+    let told = arcs-told (a .zones) es (a .gone .now) _ looked (c .arcs .ensures) in
     record {
       found-by =
           network-told (a .zones) (a .tails .now) (a .heads .now) (a .gone .now)
@@ -85,5 +105,8 @@ network-spec =
     returns
     enum-told
     fill-requires
+    used-requires
+    array-share-prefix-set
+    slice-aggregate-arcs
     arcs-requires
     returns-2)

@@ -12,14 +12,14 @@ use Rattle.zoneset.proofs.has.Tie as tie
 
 returns : tie.Need-returns
 returns c =
-    let a = c .before .before .args in
-    sym (beyond-held (a .set .now) (a .zone) (c .if1 .taken))
+    let a = c .before .args in
+    sym (beyond-held (a .words .now) (a .zone) (c .if1 .taken))
 
 returns-2 : tie.Need-returns-2
 unfolding held
 returns-2 c =
-    let a = c .before .before .before .args in
-    bit-read (getD (a .set .now) (a .zone / 64) 0) (a .zone % 64)
+    let a = c .before .before .args in
+    bit-read (getD (a .words .now) (a .zone / 64) 0) (a .zone % 64)
 
 mul-result : tie.Need-mul-result
 mul-result c = search needs
