@@ -16,7 +16,7 @@ pub const SHAPES: [&str; 11] = [
 ];
 
 /// The model's methods on a good network.
-pub fn of(net: &Net) -> Remaining {
+pub fn of(net: &Net) -> Remaining<'_> {
     Remaining::new(net.zones, &net.tails, &net.heads, &net.gone)
 }
 

@@ -4,18 +4,20 @@
 
 use super::links::{self, Link, Plan};
 use super::{graph, reduce};
+use std::borrow::Cow;
 
-pub struct Remaining {
+pub struct Remaining<'a> {
     /// The old number of each new one.
     old: Vec<u16>,
     /// The new number of each old one that has one.
     new: Vec<usize>,
-    tails: Vec<u16>,
-    heads: Vec<u16>,
+    /// The arcs in the new numbers; where none is withdrawn these are the old ones.
+    tails: Cow<'a, [u16]>,
+    heads: Cow<'a, [u16]>,
 }
 
-impl Remaining {
-    pub fn new(zones: usize, tails: &[u16], heads: &[u16], gone: &[u16]) -> Remaining {
+impl Remaining<'_> {
+    pub fn new<'a>(zones: usize, tails: &'a [u16], heads: &'a [u16], gone: &[u16]) -> Remaining<'a> {
         let mut stays = vec![true; zones];
         for &zone in gone {
             stays[usize::from(zone)] = false;
@@ -26,7 +28,10 @@ impl Remaining {
             new[zone] = old.len();
             old.push(zone as u16);
         }
-        let numbered = |list: &[u16]| list.iter().map(|&zone| new[usize::from(zone)] as u16).collect();
+        let numbered = |list: &'a [u16]| match gone {
+            [] => Cow::from(list),
+            _ => list.iter().map(|&zone| new[usize::from(zone)] as u16).collect(),
+        };
         let (tails, heads) = (numbered(tails), numbered(heads));
         Remaining { old, new, tails, heads }
     }
