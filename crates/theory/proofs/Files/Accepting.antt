@@ -1,7 +1,6 @@
 -- A network that is handed in passes its tests exactly where its lists pair up, it is one that a call accepts, and its
 -- withdrawn numbers ascend, are some of its numbers and not all, and are at no arc.
---   tail-below, head-below, ends-apart   what an accepted network says of the index i of its two lists
---   arcs-most-lists                  and of their length
+--   arcs-most-lists                  the length of an accepted network's two lists
 --   acceptable-proper                an accepted network is proper
 --   Fine n ts hs                     the lists pair up, and the network is accepted
 --   fine-few, fine-proper            it has at most 4,096 tails, and is proper
@@ -21,7 +20,7 @@ use mathlib.Core.List.{List·Memᴰ·cases-cons, List·Memᴰ·not-nil}
 use mathlib.Core.Option.{none}
 use mathlib.Core.Bool.{Bool, false, not, _||_}
 use lib.Dec.{eqb, leb, ltb}
-use lib.ListN.{length, getD}
+use lib.ListN.{length}
 use borrow.Author.Tests.{leb-false, ltb-false, eqb-true, eqb-false, not-false, le-ltb, lt-leb, eq-eqb, ne-eqb}
 use Rattle.rules.specs.Lists.{span, every, listed}
 use Rattle.rules.specs.Network.{Arc, Proper, Ascending, remaining}
@@ -29,7 +28,7 @@ use Rattle.rules.specs.File.{Acceptable, zones-bad, arcs-bad}
 use Rattle.rules.specs.Calls.{first-trouble, arcs-of, given, handed, handed-with, list-tests, arc-tests, arcs-tests}
 use Rattle.rules.specs.Calls.{network-tests, question-tests}
 use Rattle.theory.proofs.Ground.Bools.{or-false}
-use Rattle.theory.proofs.Ground.ArcLists.{arcs-length, index-arcs}
+use Rattle.theory.proofs.Ground.ArcLists.{arcs-length}
 use Rattle.theory.proofs.Ground.Ascending.{network-proper}
 use Rattle.theory.proofs.Withdrawn.Remaining.{stays, remaining-in, in-remaining, network-none, Free, Bridge, bridge}
 use Rattle.theory.proofs.Files.Troubles.{passes, pass, both-pass, first-trouble-after}
@@ -78,19 +77,6 @@ module _ (n : ℕ) (ts hs : List ℕ) where
     -- the length of the lists
     pub arcs-most-lists : length ts ≤ 4096
     arcs-most-lists = rw (arcs-length ts hs paired) at (A .arcs-most)
-
-    module _ (i : ℕ) (h : i < length ts) where
-      -- the tail at an index
-      pub tail-below : getD ts i 0 < n
-      tail-below = A .tails (index-arcs ts hs i h (omega arith))
-
-      -- the head at an index
-      pub head-below : getD hs i 0 < n
-      head-below = A .heads (index-arcs ts hs i h (omega arith))
-
-      -- the two ends of an arc
-      pub ends-apart : getD ts i 0 ≡ getD hs i 0 → ⊥
-      ends-apart = A .apart (index-arcs ts hs i h (omega arith))
 
   -- an accepted network is proper
   pub acceptable-proper : Acceptable (given n ts hs) → Proper (handed n ts hs)

@@ -1,7 +1,6 @@
 -- A network less zones that no arc touches has the same skeleton.
 --   skeleton-passes   both ends of a skeleton's arc pass
 --   fewer-skeleton    the skeleton is the same, arc for arc
---   fewer-skeleton-of the network that it makes is the network's skeleton less the same zones
 -- Each test of the rule asks about zones of the components of its two ends, or about zones between; all these pass
 -- where the two ends do. And a pair of which an end does not pass is in no ring and in no crossing. Assumes nothing.
 use Prim.Native.Nat.{ℕ}
@@ -22,7 +21,6 @@ use Rattle.rules.specs.Skeleton.{
   crosses,
   in-skeleton,
   skeleton,
-  skeleton-of,
 }
 use Rattle.theory.proofs.Ground.Bools.{and-true, true-and, or-else}
 use Rattle.theory.proofs.Ground.Lists.{keep-in, in-keep, any-agree, keep-agree}
@@ -156,7 +154,3 @@ module _ {p : ℕ → Bool} {N : Network} (P : Proper N) (T : Touched p N) where
       ∙ ap (keep (in-skeleton N)) (pairs-keep p (N .zones))
       ∙ keep-keep (ends-pass p) (in-skeleton N) (pairs-of (N .zones))
       (λ e m h. let t = skeleton-passes {e = e} (in-keep (in-skeleton N) m h) in true-and (t .0) (t .1))
-
-  -- the skeleton of the network less zones is the skeleton less the same zones
-  pub fewer-skeleton-of : skeleton-of (fewer p N) ≡ fewer p (skeleton-of N)
-  fewer-skeleton-of = λ i. record { zones = keep p (N .zones); arcs = fewer-skeleton i }

@@ -1,7 +1,7 @@
 -- The zones that remain, and the bridge: the network of all numbers beside the network of those that remain.
 --   stays gone z                   the number z is not withdrawn
 --   remaining-in, in-remaining     a zone remains exactly when it is below n and not withdrawn
---   remaining-ascending, remaining-few   they ascend, and are no more than n
+--   remaining-few                  they are no more than n
 --   network-none                   with no number withdrawn, the network is what it was
 --   Free es gone                   no arc has an end that is withdrawn
 --   Bridge, bridge                 then reach, names, kinds and skeleton are the same in both networks, and only those
@@ -20,13 +20,13 @@ use borrow.Author.Tests.{eqb-true, eq-eqb, not-true}
 use lib.Dec.{eqb}
 use lib.ListN.{length}
 use Rattle.rules.specs.Lists.{span, keep, listed}
-use Rattle.rules.specs.Network.{Arc, _⟶_, Network, network-of, remaining, network-with, Ascending, Reach, Proper}
+use Rattle.rules.specs.Network.{Arc, _⟶_, Network, network-of, remaining, network-with, Reach, Proper}
 use Rattle.rules.specs.Network.{reaches, strong}
 use Rattle.rules.specs.Components.{together, name, names, sources, sinks, alone, inner}
 use Rattle.rules.specs.Skeleton.{skeleton}
 use Rattle.theory.proofs.Ground.Bools.{false-unless, false-not, true-not-false}
 use Rattle.theory.proofs.Ground.Lists.{any-true, true-any, keep-in, in-keep, keep-all}
-use Rattle.theory.proofs.Ground.Ascending.{span-in, in-span, span-ascending, span-length, keep-ascending}
+use Rattle.theory.proofs.Ground.Ascending.{span-in, in-span, span-length}
 use Rattle.theory.proofs.Ground.Counting.{keep-length}
 use Rattle.theory.proofs.Reaching.Reach.{reach-trans, reach-arcs, strong-sound, strong-complete}
 use Rattle.theory.proofs.Reaching.Components.{name-together, name-is-name}
@@ -68,11 +68,7 @@ remaining-in n gone {z} m =
 pub in-remaining : (n : ℕ) (gone : List ℕ) {z : ℕ} → z < n → listed gone z ≡ false → In z (remaining n gone)
 in-remaining n gone {z} l e = in-keep (stays gone) (in-span 0 n (omega arith) (omega arith)) (false-not e)
 
--- the zones that remain ascend
-pub remaining-ascending : (n : ℕ) (gone : List ℕ) → Ascending (remaining n gone)
-remaining-ascending n gone = keep-ascending (stays gone) (span 0 n) (span-ascending 0 n)
-
--- they are no more than the zone count
+-- the zones that remain are no more than the zone count
 pub remaining-few : (n : ℕ) (gone : List ℕ) → length (remaining n gone) ≤ n
 remaining-few n gone =
     let a = keep-length (stays gone) (span 0 n) in
