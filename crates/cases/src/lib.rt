@@ -1,7 +1,7 @@
 // The proved cases: document 01's lettered cases A to L, eight networks of shapes that these leave out, and networks
-// with withdrawn zones, as rows of one constant array. `rules` has the same table as definitions, with the one test that
-// is computed over all its rows and the statement that every row is right (specs/Cases.antt). Here each row of the array
-// is shown to be that row.
+// with withdrawn zones, as rows of one constant array. `rules` has the same table as definitions, with the one test
+// that is computed over all its rows and the statement that every row is right (specs/Cases.antt). Here each row of
+// the array is shown to be that row.
 ghost use mathlib.Core.Path.{_≡_};
 ghost use mathlib.Core.List.{[], map};
 ghost use Prim.Native.Nat.{_<_};
@@ -10,11 +10,11 @@ ghost use Rattle.rules.specs.Cases.{rows, row-numbers};
 
 // A row is four lists. The first has the letter (45, a dash, where there is none), what is asked for (0 the plan, 1
 // the skeleton, 2 reading a file, 3 a plan that is refused, 4 whether a zone reaches another), the zone count, how many
-// numbers are given, how many are wanted, and the answer's numbers: of a plan s, t, q, p and need, of a skeleton its arc
-// count, of a refusal its number and place, of a question both and then 1 for yes. The second has what is given, arcs or
-// a file's bytes, and the third what is wanted, links or the bytes of the skeleton's file, or else the two zones of the
-// question. The fourth has how many numbers are withdrawn, and these. An arc is one number, 0x23 for the arc from 2 to
-// 3, and so is a link, 0x150 for the chain link from 5 to 0.
+// numbers are given, how many are wanted, and the answer's numbers: of a plan s, t, q, p and need, of a skeleton its
+// arc count, of a refusal its number and place, of a question both and then 1 for yes. The second has what is given,
+// arcs or a file's bytes, and the third what is wanted, links or the bytes of the skeleton's file, or else the two
+// zones of the question. The fourth has how many numbers are withdrawn, and these. An arc is one number, 0x23 for the
+// arc from 2 to 3, and so is a link, 0x150 for the chain link from 5 to 0.
 const ROWS: [[[u16; 10]; 4]; 40] = [
     // A: ring and chain
     [

@@ -1,7 +1,8 @@
 // Runs every row of the one table of proved cases through the real calls, and compares: a row that asks for a plan, or
 // for its refusal, through `plan` and through `plan_records`, one that asks for a skeleton through `skeleton` and then
-// `write`, one that asks for a file to be read through `read`, and one that asks about two zones through `reach`. A line has the row's letter, or its place in the table where it
-// has none, the call, what came out, and whether that is what the table has and the lent memory is as it has to be.
+// `write`, one that asks for a file to be read through `read`, and one that asks about two zones through `reach`. A
+// line has the row's letter, or its place in the table where it has none, the call, what came out, and whether that
+// is what the table has and the lent memory is as it has to be.
 ghost use Prim.Native.Nat.{_≤_, _<_};
 
 mod asking;

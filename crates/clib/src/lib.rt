@@ -79,8 +79,8 @@ pub extern "C" fn linkplan_reach(
     work: &mut [u16],
     answer: &mut [u64; 8],
 )
-    ensures { λ _. ⌜ C-promise (Reach-promise zones (now (tails .entry)) (now (heads .entry)) (now (gone .entry)) from to
-        (now (work .entry)) (now (work .exit)))
+    ensures { λ _. ⌜ C-promise (Reach-promise zones (now (tails .entry)) (now (heads .entry)) (now (gone .entry))
+        from to (now (work .entry)) (now (work .exit)))
         (now (answer .exit)) ⌝ }
 {
     let a = reach(zones, tails, heads, gone, from, to, work);

@@ -67,7 +67,8 @@ module _ (n : ℕ) (ts hs gone : List ℕ) (room : ℕ) (w : List ℕ) where
 
   -- the draft leaves the plan
   pub drafted-done : (m : Map) (w' : List ℕ) (l : Layout) (r : PlanAnswer) → m ≡ map-of n (length ts) →
-      records-trouble n ts hs gone room w ≡ none → Laid-out w w' m (handed-with (m .zones) ts hs gone) l → ((N : Network) → Figures N l → Carried N r) →
+      records-trouble n ts hs gone room w ≡ none → Laid-out w w' m (handed-with (m .zones) ts hs gone) l →
+      ((N : Network) → Figures N l → Carried N r) →
       Drafted n ts hs gone room w r w'
   drafted-done m w' l r made e D C =
       let L : Laid-out w w' (map-of n (length ts)) (handed-with n ts hs gone) l = rw made at D in
@@ -85,7 +86,10 @@ module _ (n : ℕ) (ts hs gone : List ℕ) (room : ℕ) (w : List ℕ) where
             why-in = omega (arith, h, need, L .few, L .long, R .0 .ready .room);
           },
         );
-        finishable = (R .0 .ready .fine .accepted .zones-most, (fine-few (R .0 .ready .fine), omega (arith, L .long, R .0 .ready .room)));
+        finishable = (
+          R .0 .ready .fine .accepted .zones-most,
+          (fine-few (R .0 .ready .fine), omega (arith, L .long, R .0 .ready .room)),
+        );
         keeps = λ ls f.
             let g = ap (λ (k : ℕ). records-trouble n ts hs gone k w) f ∙ e in
             record {

@@ -82,7 +82,8 @@ module _ (n : ℕ) (ts hs gone from to why w : List ℕ) where
 
   -- PLAN answers
   pub plan-done : (m : Map) (w₁ from' to' why' w' : List ℕ) (l : Layout) (r : PlanAnswer) →
-      m ≡ map-of n (length ts) → plan-trouble n ts hs gone from to why w ≡ none → Laid-out w w₁ m (handed-with (m .zones) ts hs gone) l →
+      m ≡ map-of n (length ts) → plan-trouble n ts hs gone from to why w ≡ none →
+      Laid-out w w₁ m (handed-with (m .zones) ts hs gone) l →
       ((N : Network) → Figures N l → Carried N r) → from' ≡ over (part w₁ (m .links .from) (l .need)) from →
       to' ≡ over (part w₁ (m .links .to) (l .need)) to → why' ≡ over (part w₁ (m .links .why) (l .need)) why →
       w' ≡ cleared (m .asked) w₁ → Plan-promise n ts hs gone from to why w from' to' why' w' (plan-told r)

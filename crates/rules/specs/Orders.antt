@@ -7,8 +7,8 @@
 -- Document 01: "Order: PAIR, ZONES, ARCS, then arc by arc RANGE (tail, then head) and SELF, then the two zones of a
 -- reach question (RANGE), then ROOM", and of a file "the first trouble from left to right. A number is tested for 1, 2,
 -- 3 and then for its value." Document 02, No. 1: HEAD, "tested and placed where RANGE was for a head"; No. 2: LIST and
--- NONE, "both in that order after ARCS", and GONE, "after SELF for arcs and after both range tests for a question". That
--- HEAD comes before SELF cannot be told: an arc from a zone to itself has a head that is a zone.
+-- NONE, "both in that order after ARCS", and GONE, "after SELF for arcs and after both range tests for a question".
+-- That HEAD comes before SELF cannot be told: an arc from a zone to itself has a head that is a zone.
 use mathlib.Core.Path.{_≡_, refl}
 use mathlib.Core.List.{List, [], _∷_}
 use mathlib.Core.Option.{Option, none, some}

@@ -1,5 +1,5 @@
-// A set of zone numbers below 1,024: sixteen words of 64 bits, made by value and read as a slice, so that no look copies
-// it. Whoever calls knows it by `held`, a function from numbers to yes or no.
+// A set of zone numbers below 1,024: sixteen words of 64 bits, made by value and read as a slice, so that no look
+// copies it. Whoever calls knows it by `held`, a function from numbers to yes or no.
 //   empty   the set with no number in it
 //   fill    the numbers of a list
 //   used    how many of its words have to be looked at

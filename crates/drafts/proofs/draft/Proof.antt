@@ -33,7 +33,8 @@ Here = tie.After-enum-told
 -- there is none
 none-here : (c : Here) →
     records-trouble (entry (c .before .before) .args .zones) (entry (c .before .before) .args .tails .now)
-    (entry (c .before .before) .args .heads .now) (entry (c .before .before) .args .gone .now) (entry (c .before .before) .args .room)
+    (entry (c .before .before) .args .heads .now) (entry (c .before .before) .args .gone .now)
+    (entry (c .before .before) .args .room)
     (entry (c .before .before) .args .work .now)
     ≡ none
 none-here c = found (c .before .before) ∙ ap tested-trouble (c .enum-told .given .1)
@@ -48,7 +49,8 @@ returns : tie.Need-returns
 returns c =
     let d = c .before .before .before in
     let a = entry d .args in
-    drafted-refused (a .zones) (a .tails .now) (a .heads .now) (a .gone .now) (a .room) (a .work .now) (c .before .t .given .0 .0)
+    drafted-refused (a .zones) (a .tails .now) (a .heads .now) (a .gone .now) (a .room) (a .work .now)
+    (c .before .t .given .0 .0)
     (found d ∙ ap tested-trouble (c .before .t .given .1))
 
 enum-told : tie.Need-enum-told
@@ -57,7 +59,8 @@ enum-told c = search needs
 map-of-requires : tie.Need-map-of-requires
 map-of-requires c κs =
     let a = entry (c .before .before) .args in
-    let f = draft-ready (a .zones) (a .tails .now) (a .heads .now) (a .gone .now) (a .room) (a .work .now) (none-here c) .0 .ready .fine in
+    let f = draft-ready (a .zones) (a .tails .now) (a .heads .now) (a .gone .now) (a .room) (a .work .now)
+    (none-here c) .0 .ready .fine in
     (f .accepted .zones-most, fine-few f)
 
 returns-2 : tie.Need-returns-2
@@ -75,7 +78,8 @@ lay-requires c κs =
     let m = c .before in
     let a = entry (m .before .before .before) .args in
     rw (m .map-of .ensures)
-    (draft-ready (a .zones) (a .tails .now) (a .heads .now) (a .gone .now) (a .room) (a .work .now) (none-here (m .before)) .0)
+    (draft-ready (a .zones) (a .tails .now) (a .heads .now) (a .gone .now) (a .room) (a .work .now)
+    (none-here (m .before)) .0)
 
 answer-of-requires : tie.Need-answer-of-requires
 answer-of-requires c κs = search needs

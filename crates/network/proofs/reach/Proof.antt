@@ -68,7 +68,8 @@ askable-here : (c : Here) →
     (a .work .now)
 askable-here c =
     let a = entry (tried c) .args in
-    reach-askable (a .zones) (a .tails .now) (a .heads .now) (a .gone .now) (a .from) (a .to) (a .work .now) (none-here c)
+    reach-askable (a .zones) (a .tails .now) (a .heads .now) (a .gone .now) (a .from) (a .to) (a .work .now)
+    (none-here c)
     .0
 
 map-of-requires : tie.Need-map-of-requires
@@ -85,7 +86,8 @@ returns-2 c =
     let j = c .before .before in
     let e = j .before .before .before in
     let a = entry (tried e) .args in
-    reach-done (a .zones) (a .tails .now) (a .heads .now) (a .gone .now) (a .from) (a .to) (a .work .now) _ (j .reached .result)
+    reach-done (a .zones) (a .tails .now) (a .heads .now) (a .gone .now) (a .from) (a .to) (a .work .now) _
+    (j .reached .result)
     (none-here e)
     (rw (j .before .before .map-of .ensures) at (j .reached .ensures))
 

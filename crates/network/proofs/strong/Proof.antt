@@ -21,7 +21,8 @@ entry c = c .before .before .before .before .before .before
 -- what was found is STRONG's trouble
 found : (c : Tried) →
     let a = entry c .args in
-    strong-trouble (a .zones) (a .tails .now) (a .heads .now) (a .gone .now) (a .work .now) ≡ tested-trouble (c .strong .result)
+    strong-trouble (a .zones) (a .tails .now) (a .heads .now) (a .gone .now) (a .work .now)
+    ≡ tested-trouble (c .strong .result)
 found c = sym (c .strong .ensures)
 
 -- they found no trouble
@@ -60,7 +61,8 @@ enum-told c = search needs
 map-of-requires : tie.Need-map-of-requires
 map-of-requires c κs =
     let a = entry (tried c) .args in
-    let F = strong-ready (a .zones) (a .tails .now) (a .heads .now) (a .gone .now) (a .work .now) (none-here c) .ready .fine in
+    let F = strong-ready (a .zones) (a .tails .now) (a .heads .now) (a .gone .now) (a .work .now)
+    (none-here c) .ready .fine in
     (F .accepted .zones-most, fine-few F)
 
 joined-requires : tie.Need-joined-requires
@@ -78,7 +80,8 @@ returns-2 c =
     let j = c .before .before in
     let e = j .before .before .before in
     let a = entry (tried e) .args in
-    strong-done (a .zones) (a .tails .now) (a .heads .now) (a .gone .now) (a .work .now) _ (j .joined .result) (none-here e)
+    strong-done (a .zones) (a .tails .now) (a .heads .now) (a .gone .now) (a .work .now) _ (j .joined .result)
+    (none-here e)
     (rw (j .before .before .map-of .ensures) at (j .joined .ensures))
 
 pub strong-spec : {M : Type 1} → statement M

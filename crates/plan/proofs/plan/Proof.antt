@@ -24,7 +24,8 @@ entry c = c .before .before .before .before .before .before .before .before .bef
 
 -- what PLAN's tests say is what was found
 found : (c : Tried) →
-    plan-trouble (entry c .args .zones) (entry c .args .tails .now) (entry c .args .heads .now) (entry c .args .gone .now)
+    plan-trouble (entry c .args .zones) (entry c .args .tails .now) (entry c .args .heads .now)
+    (entry c .args .gone .now)
     (entry c .args .from .now) (entry c .args .to .now) (entry c .args .why .now) (entry c .args .work .now)
     ≡ tested-trouble (c .plan .result)
 found c = sym (c .plan .ensures)
@@ -52,7 +53,8 @@ plannable : (c : Here) →
     (entry (c .before .before) .args .work .now)
 plannable c =
     let a = entry (c .before .before) .args in
-    tests-plannable (a .zones) (a .tails .now) (a .heads .now) (a .gone .now) (a .from .now) (a .to .now) (a .why .now) (a .work .now)
+    tests-plannable (a .zones) (a .tails .now) (a .heads .now) (a .gone .now) (a .from .now) (a .to .now)
+    (a .why .now) (a .work .now)
     (none-here c)
 
 -- the map is made
@@ -116,7 +118,8 @@ returns : tie.Need-returns
 returns c =
     let d = c .before .before .before in
     let a = entry d .args in
-    plan-refused (a .zones) (a .tails .now) (a .heads .now) (a .gone .now) (a .from .now) (a .to .now) (a .why .now) (a .work .now)
+    plan-refused (a .zones) (a .tails .now) (a .heads .now) (a .gone .now) (a .from .now) (a .to .now) (a .why .now)
+    (a .work .now)
     (c .before .t .given .0 .0) (found d ∙ ap tested-trouble (c .before .t .given .1))
 
 enum-told : tie.Need-enum-told
@@ -171,7 +174,8 @@ returns-2 c =
     let o = g .hand-out in
     let m = map d in
     let a = entry (here d .before .before) .args in
-    plan-done (a .zones) (a .tails .now) (a .heads .now) (a .gone .now) (a .from .now) (a .to .now) (a .why .now) (a .work .now)
+    plan-done (a .zones) (a .tails .now) (a .heads .now) (a .gone .now) (a .from .now) (a .to .now) (a .why .now)
+    (a .work .now)
     (m .map-of .result) (d .lay .last .1 .1 .1 .1 .0) (o .last .1 .1 .1 .0) (o .last .1 .1 .1 .1 .0)
     (o .last .1 .1 .1 .1 .1 .0) (h .clear .last .0) (d .lay .result) (c .answer-of .result) (m .map-of .ensures)
     (none-here (here d)) (d .lay .ensures) (c .answer-of .ensures) (o .ensures .starts-out) (o .ensures .ends-out)

@@ -1,5 +1,5 @@
--- `either` meets its contract: a set of no words holds no zone, and the second zone is looked at only where the first is
--- not withdrawn. Assumes nothing.
+-- `either` meets its contract: a set of no words holds no zone, and the second zone is looked at only where the first
+-- is not withdrawn. Assumes nothing.
 use borrow.Author.Needs.{needs}
 use native.Mathlib.Omega.{arith}
 use mathlib.Core.Path.{sym}

@@ -96,7 +96,8 @@ formals =
 abbrev locals : List Ty
 locals =
     P′.mir ∷ tyInt w64 ∷ words (named 0) imm ∷ words (named 1) imm ∷ words (named 2) imm ∷ links (named 3)
-    ∷ words (named 4) mut ∷ P′.mir ∷ tyInt w64 ∷ tyRef erased mut (tyInt w16) ∷ words erased mut ∷ tyUnit ∷ tyRef erased mut link ∷ links erased
+    ∷ words (named 4) mut ∷ P′.mir ∷ tyInt w64 ∷ tyRef erased mut (tyInt w16) ∷ words erased mut ∷ tyUnit
+    ∷ tyRef erased mut link ∷ links erased
     ∷ tyRef erased imm (tyInt w16) ∷ words erased imm ∷ tyRef erased mut (tyInt w16) ∷ words erased mut ∷ []
 
 module _ {M : Type 1} {𝓤 : URA M} {H : Heap 𝓤} {A : Atoms 𝓤} (W : Given 𝓤 H A) (mem : Memory → SProp 𝓤)
@@ -254,8 +255,8 @@ module _ {M : Type 1} {𝓤 : URA M} {H : Heap 𝓤} {A : Atoms 𝓤} (W : Given
         (λ r ks. id⊢ 𝓤 _)
         (λ r ks p. let us : List ℕ = ks .1 .1 .1 .1 .1 .0 in
         keeps !
-        (rest ∷ rest ∷ rest ∷ rest ∷ rest ∷ final lent ∷ owned answer ∷ token tails ∷ token heads ∷ token gone ∷ token lent
-        ∷ []) refl $
+        (rest ∷ rest ∷ rest ∷ rest ∷ rest ∷ final lent ∷ owned answer ∷ token tails ∷ token heads ∷ token gone
+        ∷ token lent ∷ []) refl $
         takes ! (owned answer ∷ []) refl $ facts ! P.the-row (Is P.the-row) (shows 𝓤 H A P.the-row) r (u ∷ []) (λ is.
         lands-in ! refl tt (EL.lawful P.the-type P′.the-laws 𝓤 H A W tt .typed r _ is .0) $
         takes ! (final lent ∷ []) refl $ fsplit ! $ keeps ! (final lent ∷ []) refl $ feqL ! (λ long.

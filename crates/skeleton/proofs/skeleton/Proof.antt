@@ -19,7 +19,8 @@ entry c = c .before .before .before .before .before .before .before .before .bef
 -- what was found is SKELETON's trouble
 found : (c : Tried) →
     let a = entry c .args in
-    skeleton-trouble (a .zones) (a .tails .now) (a .heads .now) (a .gone .now) (a .from .now) (a .to .now) (a .work .now)
+    skeleton-trouble (a .zones) (a .tails .now) (a .heads .now) (a .gone .now) (a .from .now) (a .to .now)
+    (a .work .now)
     ≡ tested-trouble (c .skeleton .result)
 found c = sym (c .skeleton .ensures)
 
@@ -42,7 +43,8 @@ returns : tie.Need-returns
 returns c =
     let d = c .before .before .before in
     let a = entry d .args in
-    skeleton-refused (a .zones) (a .tails .now) (a .heads .now) (a .gone .now) (a .from .now) (a .to .now) (a .work .now)
+    skeleton-refused (a .zones) (a .tails .now) (a .heads .now) (a .gone .now) (a .from .now) (a .to .now)
+    (a .work .now)
     (c .before .t .given .0 .0) (found d ∙ ap tested-trouble (c .before .t .given .1))
 
 enum-told : tie.Need-enum-told
@@ -53,7 +55,8 @@ sketch-requires c κs =
     let e = c .before .before .before in
     let d = e .before .before in
     let a = entry d .args in
-    skeleton-sketchable (a .zones) (a .tails .now) (a .heads .now) (a .gone .now) (a .from .now) (a .to .now) (a .work .now)
+    skeleton-sketchable (a .zones) (a .tails .now) (a .heads .now) (a .gone .now) (a .from .now) (a .to .now)
+    (a .work .now)
     (found d ∙ ap tested-trouble (e .enum-told .given .1))
     .0
 
@@ -73,7 +76,8 @@ returns-2 c =
     let d = e .before .before in
     let a = entry d .args in
     let s = k .sketch in
-    skeleton-done (a .zones) (a .tails .now) (a .heads .now) (a .gone .now) (a .from .now) (a .to .now) (a .work .now) (s .result)
+    skeleton-done (a .zones) (a .tails .now) (a .heads .now) (a .gone .now) (a .from .now) (a .to .now) (a .work .now)
+    (s .result)
     (s .last .1 .1 .1 .0) (s .last .1 .1 .1 .1 .0) (s .last .1 .1 .1 .1 .1 .0)
     (found d ∙ ap tested-trouble (e .enum-told .given .1)) (s .ensures)
 

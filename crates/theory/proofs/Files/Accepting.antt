@@ -30,7 +30,8 @@ use Rattle.rules.specs.Calls.{network-tests, question-tests}
 use Rattle.theory.proofs.Ground.Bools.{or-false}
 use Rattle.theory.proofs.Ground.ArcLists.{arcs-length}
 use Rattle.theory.proofs.Ground.Ascending.{network-proper}
-use Rattle.theory.proofs.Withdrawn.Remaining.{stays, remaining-in, in-remaining, network-none, Free, Bridge, bridge}
+use Rattle.theory.proofs.Withdrawn.Remaining.{stays, remaining-in, in-remaining, network-none, Free, Bridge}
+use Rattle.theory.proofs.Withdrawn.Remaining.{bridge}
 use Rattle.theory.proofs.Files.Troubles.{passes, pass, both-pass, first-trouble-after}
 use Rattle.theory.proofs.Files.Listing.{list-rises, rises-list, rising-ascending, rising-below}
 use Rattle.theory.proofs.Files.Listing.{ascending-rising, some-remains, remains-some}

@@ -255,8 +255,8 @@ module _ {M : Type 1} {𝓤 : URA M} {H : Heap 𝓤} {A : Atoms 𝓤} (W : Given
         (asked-is r ls u₁ v is₁ is₂) .0) $
         -- the exit
         takes !
-        (token tails ∷ token heads ∷ token gone ∷ token work ∷ lender tails ∷ lender heads ∷ lender gone ∷ final work ∷ [])
-        refl $
+        (token tails ∷ token heads ∷ token gone ∷ token work ∷ lender tails ∷ lender heads ∷ lender gone ∷ final work
+        ∷ []) refl $
         leaves ! refl refl tt $
         ends W ar.ended (ar.clauses 𝓤 H A mem run) ((κs, qs, tt, a, at), tt) (stays formals)
         (vstruct (ofList (u₁ ∷ v ∷ []))) (record { answer = r; links = ls })
