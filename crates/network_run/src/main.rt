@@ -163,6 +163,9 @@ fn main() {
           none left, and tail out of range: 0 0 0 2 57 1 1 2 0 0 0 0 0 2 0 1;\
           gone tail: 0 0 0 3 57 2 2 0 1 0 2 0 0 1 1;\
           gone head: 0 0 0 3 57 2 2 0 2 0 2 1 0 1 1;\
+          gone tail above 32: 0 0 0 130 2100 1 1 40 0 0 1 0 0 1 40;\
+          gone head above 64: 0 0 0 130 2100 1 1 0 0 0 128 0 0 1 128;\
+          not gone, 64 apart: 0 0 0 130 2100 1 1 0 0 0 64 0 0 1 128;\
           self arc of a gone zone: 0 0 0 3 57 2 2 0 1 0 2 1 0 1 1;\
           gone, then range: 0 0 0 3 57 2 2 1 3 0 0 0 0 1 1;\
           gone and room: 0 0 0 3 0 1 1 1 0 0 0 0 0 1 1;\
