@@ -1,16 +1,16 @@
 // The tests of each call that is handed a network and lent work memory, in the order of the rules: chains of the tests
 // of `intake`. A test that only some calls make is a line in each of these.
 ghost use Rattle.std.specs.Prelude.{◌≡◌};
-ghost use Rattle.rules.specs.Calls.{strong-trouble, reach-trouble, skeleton-trouble, plan-trouble, records-trouble};
-ghost use Rattle.probes.specs.Tested.{tested-trouble};
+ghost use Rattle.rules.specs.Calls.{strong_trouble, reach_trouble, skeleton_trouble, plan_trouble, records_trouble};
+ghost use Rattle.probes.specs.Tested.{tested_trouble};
 
 use intake::network;
 use probes::{Tested, question, room};
 
 // STRONG: a network, and work memory.
 pub fn strong(zones: usize, tails: &[u16], heads: &[u16], gone: &[u16], work: &[u16]) -> Tested
-    ensures { tested-trouble result
-        ≡ strong-trouble zones tails.now heads.now gone.now work.now }
+    ensures { tested_trouble result
+        ≡ strong_trouble zones tails.now heads.now gone.now work.now }
 {
     let taken = network(zones, tails, heads, gone);
     let found = taken.found;
@@ -27,8 +27,8 @@ pub fn reach(
     to: usize,
     work: &[u16],
 ) -> Tested
-    ensures { tested-trouble result
-        ≡ reach-trouble zones tails.now heads.now gone.now from to
+    ensures { tested_trouble result
+        ≡ reach_trouble zones tails.now heads.now gone.now from to
         work.now }
 {
     let taken = network(zones, tails, heads, gone);
@@ -47,8 +47,8 @@ pub fn skeleton(
     to: &[u16],
     work: &[u16],
 ) -> Tested
-    ensures { tested-trouble result
-        ≡ skeleton-trouble zones tails.now heads.now gone.now from.now
+    ensures { tested_trouble result
+        ≡ skeleton_trouble zones tails.now heads.now gone.now from.now
         to.now work.now }
 {
     let taken = network(zones, tails, heads, gone);
@@ -69,8 +69,8 @@ pub fn plan(
     why: &[u16],
     work: &[u16],
 ) -> Tested
-    ensures { tested-trouble result
-        ≡ plan-trouble zones tails.now heads.now gone.now from.now
+    ensures { tested_trouble result
+        ≡ plan_trouble zones tails.now heads.now gone.now from.now
         to.now why.now work.now }
 {
     let taken = network(zones, tails, heads, gone);
@@ -90,8 +90,8 @@ pub fn records(
     lent: usize,
     work: &[u16],
 ) -> Tested
-    ensures { tested-trouble result
-        ≡ records-trouble zones tails.now heads.now gone.now lent
+    ensures { tested_trouble result
+        ≡ records_trouble zones tails.now heads.now gone.now lent
         work.now }
 {
     let taken = network(zones, tails, heads, gone);

@@ -1,11 +1,11 @@
 -- Bits of numbers, and of the numbers of a list.
---   bit-none    no bit of 0 is set
---   bit-power   2 ^ k has bit k and no other
---   bit-or      bitwise or has the bits of both
---   bit-read    how code reads a bit: shift right, keep the lowest
+--   bit_none    no bit of 0 is set
+--   bit_power   2 ^ k has bit k and no other
+--   bit_or      bitwise or has the bits of both
+--   bit_read    how code reads a bit: shift right, keep the lowest
 --   one_shifted how code makes a number with one bit: shift 1 left
---   bit-stored  after a store that adds one bit to one number of a list, that bit is set, and any other as it was
--- `bit-power` is by induction on both places, the others by the library's laws of or, shifts and rests.
+--   bit_stored  after a store that adds one bit to one number of a list, that bit is set, and any other as it was
+-- `bit_power` is by induction on both places, the others by the library's laws of or, shifts and rests.
 -- Assumes nothing.
 use mathlib.Core.Path.{◌≡◌, refl, sym, ap, ap₂, ◌∙◌}
 use mathlib.Core.Bool.{false, ◌&&◌, ◌||◌, or_comm}
@@ -24,9 +24,9 @@ use lib.Seq.{get_or-set_same, get_or-set_other}
 use Rattle.bits.specs.Bits.{bit}
 
 -- no bit of 0 is set
-pub bit-none : (j : ℕ) → bit 0 j ≡ false
+pub bit_none : (j : ℕ) → bit 0 j ≡ false
 unfolding bit
-bit-none j = ap (λ (n : ℕ). eqb (n % 2) 1) (zero-div (2 ^ j))
+bit_none j = ap (λ (n : ℕ). eqb (n % 2) 1) (zero-div (2 ^ j))
 
 -- the lowest bits of two numbers, and the larger of them
 larger : (p q : ℕ) → p < 2 → q < 2 → eqb (max p q % 2) 1 ≡ (eqb p 1 || eqb q 1)
@@ -46,44 +46,44 @@ lowest x y =
     ∙ larger (x % 2) (y % 2) (mod-lt x (zero-lt-suc 1)) (mod-lt y (zero-lt-suc 1))
 
 -- bitwise or has the bits of both
-pub bit-or : (a b j : ℕ) → bit (bit_or a b) j ≡ (bit a j || bit b j)
+pub bit_or : (a b j : ℕ) → bit (bit_or a b) j ≡ (bit a j || bit b j)
 unfolding bit
-bit-or a b j = ap (λ (n : ℕ). eqb (n % 2) 1) (or_shr a b j) ∙ lowest (a / 2 ^ j) (b / 2 ^ j)
+bit_or a b j = ap (λ (n : ℕ). eqb (n % 2) 1) (or_shr a b j) ∙ lowest (a / 2 ^ j) (b / 2 ^ j)
 
 -- 2 ^ k has bit k and no other
-bit-power : (k j : ℕ) → bit (2 ^ k) j ≡ eqb j k
+bit_power : (k j : ℕ) → bit (2 ^ k) j ≡ eqb j k
 unfolding bit
-bit-power zero zero = refl
-bit-power zero (suc j) =
+bit_power zero zero = refl
+bit_power zero (suc j) =
     ap (λ (n : ℕ). eqb (n % 2) 1)
     (div-eq_of_lt {n = 2 ^ 0} {m = 2 ^ suc j} (pow-lt {i = 0} {j = suc j} (omega arith)))
     ∙ sym (eqb-suc-zero j)
-bit-power (suc k) zero =
+bit_power (suc k) zero =
     ap (λ (n : ℕ). eqb (n % 2) 1) (div-one (2 ^ suc k) ∙ pow-suc 2 k)
     ∙ ap (λ (n : ℕ). eqb n 1) (mul-mod_left (2 ^ k) 2)
     ∙ sym (eqb-zero-suc k)
-bit-power (suc k) (suc j) =
+bit_power (suc k) (suc j) =
     ap₂ (λ (n m : ℕ). eqb (n / m % 2) 1) (pow-suc 2 k) (pow-suc 2 j)
     ∙ ap (λ (n : ℕ). eqb (n % 2) 1) (mul-div-mul_right (2 ^ k) (2 ^ j) (zero-lt-suc 1))
-    ∙ bit-power k j
+    ∙ bit_power k j
     ∙ sym (eqb-suc-suc j k)
 
 -- how code reads a bit
-pub bit-read : (w j : ℕ) → eqb (bit_and (w / 2 ^ j) 1) 1 ≡ bit w j
+pub bit_read : (w j : ℕ) → eqb (bit_and (w / 2 ^ j) 1) 1 ≡ bit w j
 unfolding bit
-bit-read w j = ap (λ (n : ℕ). eqb n 1) (and_mask (w / 2 ^ j) 1)
+bit_read w j = ap (λ (n : ℕ). eqb n 1) (and_mask (w / 2 ^ j) 1)
 
 -- how code makes a number with one bit, in words of k bits
 pub one_shifted : (k s : ℕ) → s < k → 1 * 2 ^ s % 2 ^ k ≡ 2 ^ s
 one_shifted k s h = shl_exact 1 s k (lit< tt) (omega arith) ∙ one-mul (2 ^ s)
 
 -- after a store that adds bit s to the number at p, that bit is set, and any other is as it was
-pub bit-stored : (w : List ℕ) (p s q t : ℕ) → p < length w
+pub bit_stored : (w : List ℕ) (p s q t : ℕ) → p < length w
     → bit (get_or (set w p (bit_or (get_or w p 0) (2 ^ s))) q 0) t ≡ ((eqb q p && eqb t s) || bit (get_or w q 0) t)
-bit-stored w p s q t h =
+bit_stored w p s q t h =
     elim (ℕ_discrete q p) [
       | yes e ↦
-          rw (e, get_or-set_same, bit-or, bit-power, eq-eqb p p refl)
+          rw (e, get_or-set_same, bit_or, bit_power, eq-eqb p p refl)
           (or_comm (bit (get_or w p 0) t) (eqb t s))
       | no n ↦ rw (get_or-set_other, ne_eqb q p n)
     ]

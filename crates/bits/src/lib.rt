@@ -4,7 +4,7 @@
 //   set_bit   sets one
 //   join      sets in one row all bits that are set in another
 ghost use Rattle.std.specs.Prelude.{◌≡◌, ◌+◌, ◌*◌, ◌/◌, ◌≤◌, ◌<◌, length};
-ghost use Rattle.bits.specs.Bits.{bit_in, with-bit, with-words};
+ghost use Rattle.bits.specs.Bits.{bit_in, with_bit, with_words};
 
 // Whether bit b of row a is set.
 pub fn has_bit(work: &[u16], words: usize, a: usize, b: usize) -> bool
@@ -17,7 +17,7 @@ pub fn has_bit(work: &[u16], words: usize, a: usize, b: usize) -> bool
 // Sets bit b of row a.
 pub fn set_bit(work: &mut [u16], words: usize, a: usize, b: usize)
     requires { a * words + b / 16 < length work.old }
-    ensures { work.new ≡ with-bit work.old words a b }
+    ensures { work.new ≡ with_bit work.old words a b }
 {
     let at = a * words + b / 16;
     work[at] = work[at] | 1u16 << (b % 16);
@@ -26,7 +26,7 @@ pub fn set_bit(work: &mut [u16], words: usize, a: usize, b: usize)
 // Sets in the row that starts at `into` all bits that are set in the row that starts at `from`.
 pub fn join(work: &mut [u16], into: usize, from: usize, words: usize)
     requires { (into + words ≤ length work.old) × (from + words ≤ length work.old) }
-    ensures { work.new ≡ with-words work.old into from words }
+    ensures { work.new ≡ with_words work.old into from words }
 {
     let mut word = 0;
     while word < words {

@@ -1,6 +1,6 @@
 -- One block over a cleared table, and the loop over the blocks.
---   end-yes, end-no               the two ways of the block's end;   end_low   it is a place, or behind the last
---   block-laid .. block-done      what one block asks of its sweep, and what it leaves
+--   end_yes, end_no               the two ways of the block's end;   end_low   it is a place, or behind the last
+--   block_laid .. block_done      what one block asks of its sweep, and what it leaves
 --   Blocking ..                   the first blocks are done, with the loop's start, one turn and its end
 -- Names and rows stand behind the table, and a cleared table depends on what stands behind it only: so every block sees
 -- what was there at the start. Assumes nothing.
@@ -19,136 +19,136 @@ use Rattle.rules.specs.Network.{Arc}
 use Rattle.theory.proofs.Ground.Bools.{bool_cases}
 use Rattle.workmap.specs.declared.TableAt.{TableAt}
 use Rattle.memory.specs.Regions.{cell}
-use Rattle.memory.specs.Putting.{Arcs-fit, Arcs-put}
-use Rattle.memory.proofs.Cleared.{cleared-length, cleared-behind, cleared-back}
-use Rattle.memory.proofs.Puts.{put-none, put_then, put-long}
+use Rattle.memory.specs.Putting.{ArcsFit, ArcsPut}
+use Rattle.memory.proofs.Cleared.{cleared_length, cleared_behind, cleared_back}
+use Rattle.memory.proofs.Puts.{put_none, put_then, put_long}
 use Rattle.uniting.specs.declared.Block.{Block}
-use Rattle.uniting.specs.Uniting.{row-heads, Block-laid}
-use Rattle.uniting.proofs.Behind.{tops-kept, rows-kept, laid_kept}
-use Rattle.blocks.specs.Sweeps.{places-arcs, block-end, block-arcs, all-arcs, blocks-of, block_of, crossing-arcs}
-use Rattle.blocks.specs.Contract.{Places-turned, Block-done, Crossings-put}
-use Rattle.blocks.proofs.TableRight.{places-turned-long, places-turned-behind}
+use Rattle.uniting.specs.Uniting.{row_heads, BlockLaid}
+use Rattle.uniting.proofs.Behind.{tops_kept, rows_kept, laid_kept}
+use Rattle.blocks.specs.Sweeps.{places_arcs, block_end, block_arcs, all_arcs, blocks_of, block_of, crossing_arcs}
+use Rattle.blocks.specs.Contract.{PlacesTurned, BlockDone, CrossingsPut}
+use Rattle.blocks.proofs.TableRight.{places_turned_long, places_turned_behind}
 
 -- a block that is not the last ends behind its 128 components
-pub end-yes : (n first : ℕ) → first + 128 < n → first + 128 ≡ block-end n first
-unfolding block-end
-end-yes n first h = rw (lt-ltb (first + 128) n h, block-end)
+pub end_yes : (n first : ℕ) → first + 128 < n → first + 128 ≡ block_end n first
+unfolding block_end
+end_yes n first h = rw (lt-ltb (first + 128) n h, block_end)
 
 -- the last one ends behind all components
-pub end-no : (n first : ℕ) → n ≤ first + 128 → n ≡ block-end n first
-unfolding block-end
-end-no n first h = rw (le-ltb (first + 128) n h, block-end)
+pub end_no : (n first : ℕ) → n ≤ first + 128 → n ≡ block_end n first
+unfolding block_end
+end_no n first h = rw (le-ltb (first + 128) n h, block_end)
 
 -- the end is no more than there are places, and every component of the block stands before it
-pub end_low : (n first : ℕ) → (block-end n first ≤ n) × ((l : ℕ) → l < n → l - first < 128 → l < block-end n first)
+pub end_low : (n first : ℕ) → (block_end n first ≤ n) × ((l : ℕ) → l < n → l - first < 128 → l < block_end n first)
 end_low n first =
     elim (bool_cases (ltb (first + 128) n)) [
       | inl e ↦
           let h = ltb-true (first + 128) n e in
-          let q = end-yes n first h in
+          let q = end_yes n first h in
           (omega arith, λ l i j. omega arith)
       | inr e ↦
           let h = ltb-false (first + 128) n e in
-          let q = end-no n first h in
+          let q = end_no n first h in
           (omega arith, λ l i j. omega arith)
     ]
 
 -- the table lies in the memory
-pub table-room : {w : List ℕ} {b : Block} → Block-laid w b → b.places * 8 ≤ length w
-table-room L = omega (arith, L.tops-behind, L.tops_fit)
+pub table_room : {w : List ℕ} {b : Block} → BlockLaid w b → b.places * 8 ≤ length w
+table_room L = omega (arith, L.tops_behind, L.tops_fit)
 
-module _ {w : List ℕ} {b : Block} (L : Block-laid w b) (e : ℕ) (q : e ≡ block-end b.places b.first) (v : List ℕ)
+module _ {w : List ℕ} {b : Block} (L : BlockLaid w b) (e : ℕ) (q : e ≡ block_end b.places b.first) (v : List ℕ)
     (c : v ≡ cleared (b.places * 8) w) where
   -- the cleared memory is as long
   long : length v ≡ length w
-  long = ap length c ∙ cleared-length (b.places * 8) w (table-room L)
+  long = ap length c ∙ cleared_length (b.places * 8) w (table_room L)
 
   -- and the same behind the table
   same : drop (b.places * 8) v ≡ drop (b.places * 8) w
-  same = ap (drop (b.places * 8)) c ∙ cleared-behind (b.places * 8) w
+  same = ap (drop (b.places * 8)) c ∙ cleared_behind (b.places * 8) w
 
   -- names and rows stand behind the cleared table
-  pub block-laid : Block-laid v b
-  block-laid = laid_kept L v same long
+  pub block_laid : BlockLaid v b
+  block_laid = laid_kept L v same long
 
   -- the sweep goes over places
-  pub block-low : e ≤ b.places
-  block-low = omega (arith, q, (end_low b.places b.first).0)
+  pub block_low : e ≤ b.places
+  block_low = omega (arith, q, (end_low b.places b.first).0)
 
   -- the arcs of the sweep are those of the block
-  arcs-are : places-arcs (cell v b.tops) v b.first (row-heads v b) e e
-      ≡ block-arcs (cell w b.tops) w b.places b.first (row-heads w b)
-  unfolding block-arcs
-  arcs-are =
-      ap₂ (λ (f : ℕ → ℕ) (g : ℕ → List ℕ). places-arcs f v b.first g e e) (tops-kept L v same) (rows-kept L v same)
-      ∙ ap₂ (λ (x : List ℕ) (k : ℕ). places-arcs (cell w b.tops) x b.first (row-heads w b) k k) c q
+  arcs_are : places_arcs (cell v b.tops) v b.first (row_heads v b) e e
+      ≡ block_arcs (cell w b.tops) w b.places b.first (row_heads w b)
+  unfolding block_arcs
+  arcs_are =
+      ap₂ (λ (f : ℕ → ℕ) (g : ℕ → List ℕ). places_arcs f v b.first g e e) (tops_kept L v same) (rows_kept L v same)
+      ∙ ap₂ (λ (x : List ℕ) (k : ℕ). places_arcs (cell w b.tops) x b.first (row_heads w b) k k) c q
 
   -- they have room
   pub block_room : (ts hs : List ℕ) (p : ℕ) →
-      Arcs-fit ts hs p (block-arcs (cell w b.tops) w b.places b.first (row-heads w b)) →
-      Arcs-fit ts hs p (places-arcs (cell v b.tops) v b.first (row-heads v b) e e)
-  block_room ts hs p R = rw arcs-are R
+      ArcsFit ts hs p (block_arcs (cell w b.tops) w b.places b.first (row_heads w b)) →
+      ArcsFit ts hs p (places_arcs (cell v b.tops) v b.first (row_heads v b) e e)
+  block_room ts hs p R = rw arcs_are R
 
   -- what the block leaves
-  pub block-done : (u ts hs ts' hs' : List ℕ) (p r : ℕ) → Places-turned v u b e ts hs ts' hs' p r →
-      Block-done w u b ts hs ts' hs' p r
-  block-done u ts hs ts' hs' p r S =
+  pub block_done : (u ts hs ts' hs' : List ℕ) (p r : ℕ) → PlacesTurned v u b e ts hs ts' hs' p r →
+      BlockDone w u b ts hs ts' hs' p r
+  block_done u ts hs ts' hs' p r S =
       record {
-        long = ap length S.memory ∙ places-turned-long v b.first (row-heads v b) e e ∙ long;
+        long = ap length S.memory ∙ places_turned_long v b.first (row_heads v b) e e ∙ long;
         behind =
             ap (drop (b.places * 8)) S.memory
-            ∙ places-turned-behind (b.places * 8) v b.first (row-heads v b) b.places e e (omega arith)
-            block-low (omega arith)
+            ∙ places_turned_behind (b.places * 8) v b.first (row_heads v b) b.places e e (omega arith)
+            block_low (omega arith)
             ∙ same;
-        put = rw arcs-are at S.put;
+        put = rw arcs_are at S.put;
       }
 
 -- fewer blocks leave no more arcs
-all-few : (top : ℕ → ℕ) (w : List ℕ) (n : ℕ) (row : ℕ → List ℕ) (m k : ℕ) → m ≤ k →
-    length (all-arcs top w n row m) ≤ length (all-arcs top w n row k)
-unfolding all-arcs
-all-few top w n row m zero h =
+all_few : (top : ℕ → ℕ) (w : List ℕ) (n : ℕ) (row : ℕ → List ℕ) (m k : ℕ) → m ≤ k →
+    length (all_arcs top w n row m) ≤ length (all_arcs top w n row k)
+unfolding all_arcs
+all_few top w n row m zero h =
     let none : m ≡ 0 = omega arith in
     rw none (omega arith)
-all-few top w n row m (suc k) h =
+all_few top w n row m (suc k) h =
     elim (ℕ_discrete m (suc k)) [
       | yes q ↦ rw q (omega arith)
       | no q ↦
           omega (
             arith,
-            all-few top w n row m k (omega (arith, q)),
-            length-append (all-arcs top w n row k) (block-arcs top w n (k * 128) row),
+            all_few top w n row m k (omega (arith, q)),
+            length-append (all_arcs top w n row k) (block_arcs top w n (k * 128) row),
           )
     ]
 
 -- the arcs of the first k blocks, as names and rows stand in the memory
-abbrev pub arcs-in : List ℕ → TableAt → ℕ → ℕ → List Arc
-arcs-in w at n k = all-arcs (cell w at.tops) w n (row-heads w (block_of at n 0)) k
+abbrev pub arcs_in : List ℕ → TableAt → ℕ → ℕ → List Arc
+arcs_in w at n k = all_arcs (cell w at.tops) w n (row_heads w (block_of at n 0)) k
 
 -- the first blocks are done
 pub record Blocking (w u : List ℕ) (at : TableAt) (n : ℕ) (ts hs ts' hs' : List ℕ) (p first next : ℕ) : Type 0 where
   pub done : ℕ
   pub start : first ≡ done * 128
-  pub low : done ≤ blocks-of n
+  pub low : done ≤ blocks_of n
   pub long : length u ≡ length w
   pub behind : drop (n * 8) u ≡ drop (n * 8) w
-  pub put : Arcs-put ts hs ts' hs' p (arcs-in w at n done) next
+  pub put : ArcsPut ts hs ts' hs' p (arcs_in w at n done) next
 
 -- at first none is
-pub blocking-start : (w : List ℕ) (at : TableAt) (n : ℕ) (ts hs : List ℕ) (p : ℕ) →
+pub blocking_start : (w : List ℕ) (at : TableAt) (n : ℕ) (ts hs : List ℕ) (p : ℕ) →
     Blocking w w at n ts hs ts hs p 0 p
-unfolding all-arcs
-blocking-start w at n ts hs p =
-    record { done = 0; start = refl; low = omega arith; long = refl; behind = refl; put = put-none ts hs p }
+unfolding all_arcs
+blocking_start w at n ts hs p =
+    record { done = 0; start = refl; low = omega arith; long = refl; behind = refl; put = put_none ts hs p }
 
 -- names and rows stand where they do, whichever block it is
-block-any : {w : List ℕ} (at : TableAt) (n first : ℕ) → Block-laid w (block_of at n 0) →
-    Block-laid w (block_of at n first)
-block-any at n first L =
+block_any : {w : List ℕ} (at : TableAt) (n first : ℕ) → BlockLaid w (block_of at n 0) →
+    BlockLaid w (block_of at n first)
+block_any at n first L =
     record {
       small = L.small;
-      tops-behind = L.tops-behind;
-      starts-behind = L.starts-behind;
+      tops_behind = L.tops_behind;
+      starts_behind = L.starts_behind;
       rows_behind = L.rows_behind;
       tops_fit = L.tops_fit;
       starts_fit = L.starts_fit;
@@ -158,55 +158,55 @@ block-any at n first L =
     }
 
 module _ {w u : List ℕ} {at : TableAt} {n : ℕ} {ts hs ts' hs' : List ℕ} {p first next : ℕ}
-    (L : Block-laid w (block_of at n 0)) (B : Blocking w u at n ts hs ts' hs' p first next) (h : first < n) where
+    (L : BlockLaid w (block_of at n 0)) (B : Blocking w u at n ts hs ts' hs' p first next) (h : first < n) where
   -- names and rows still stand behind the table
-  pub blocking-laid : Block-laid u (block_of at n first)
-  blocking-laid = block-any at n first (laid_kept L u B.behind B.long)
+  pub blocking_laid : BlockLaid u (block_of at n first)
+  blocking_laid = block_any at n first (laid_kept L u B.behind B.long)
 
   -- the block begins at a place
-  pub blocking-first : first ≤ 1024
-  blocking-first = omega (arith, L.small)
+  pub blocking_first : first ≤ 1024
+  blocking_first = omega (arith, L.small)
 
   -- the arcs of this block
   abbrev new : List Arc
-  new = block-arcs (cell u at.tops) u n first (row-heads u (block_of at n first))
+  new = block_arcs (cell u at.tops) u n first (row_heads u (block_of at n first))
 
   -- they are those that names, rows and table at the start give
-  arcs-now : new ≡ block-arcs (cell w at.tops) w n (B.done * 128) (row-heads w (block_of at n 0))
-  unfolding block-arcs
-  arcs-now =
-      ap₂ (λ (f : ℕ → ℕ) (g : ℕ → List ℕ). block-arcs f u n first g) (tops-kept L u B.behind)
-      (rows-kept L u B.behind)
+  arcs_now : new ≡ block_arcs (cell w at.tops) w n (B.done * 128) (row_heads w (block_of at n 0))
+  unfolding block_arcs
+  arcs_now =
+      ap₂ (λ (f : ℕ → ℕ) (g : ℕ → List ℕ). block_arcs f u n first g) (tops_kept L u B.behind)
+      (rows_kept L u B.behind)
       ∙ ap₂ (λ (x : List ℕ) (k : ℕ).
-      places-arcs (cell w at.tops) x k (row-heads w (block_of at n 0)) (block-end n k) (block-end n k))
-      (cleared-back (n * 8) w u B.behind) B.start
+      places_arcs (cell w at.tops) x k (row_heads w (block_of at n 0)) (block_end n k) (block_end n k))
+      (cleared_back (n * 8) w u B.behind) B.start
 
   -- the arcs with those of this block
-  grown : arcs-in w at n (B.done + 1) ≡ arcs-in w at n B.done ++ new
-  unfolding all-arcs
-  grown = rw (arcs-now, add-one)
+  grown : arcs_in w at n (B.done + 1) ≡ arcs_in w at n B.done ++ new
+  unfolding all_arcs
+  grown = rw (arcs_now, add-one)
 
   -- it is one of the blocks
-  another : B.done + 1 ≤ blocks-of n
+  another : B.done + 1 ≤ blocks_of n
   another = let start = B.start in omega arith
 
   -- its arcs have room
-  pub blocking-room : Arcs-fit ts hs p (crossing-arcs w at n) → Arcs-fit ts' hs' next new
-  unfolding crossing-arcs
-  blocking-room R =
-      let few = all-few (cell w at.tops) w n (row-heads w (block_of at n 0)) (B.done + 1) (blocks-of n) another in
+  pub blocking_room : ArcsFit ts hs p (crossing_arcs w at n) → ArcsFit ts' hs' next new
+  unfolding crossing_arcs
+  blocking_room R =
+      let few = all_few (cell w at.tops) w n (row_heads w (block_of at n 0)) (B.done + 1) (blocks_of n) another in
       let more = ap length grown in
-      let both = length-append (arcs-in w at n B.done) new in
-      let long = put-long B.put in
+      let both = length-append (arcs_in w at n B.done) new in
+      let long = put_long B.put in
       record {
         tails = omega (arith, few, more, both, long.0, B.put.behind, R.tails);
         heads = omega (arith, few, more, both, long.1, B.put.behind, R.heads);
       }
 
   -- one block more
-  pub blocking-turn : (v ts'' hs'' : List ℕ) (r : ℕ) → Block-done u v (block_of at n first) ts' hs' ts'' hs'' next r →
+  pub blocking_turn : (v ts'' hs'' : List ℕ) (r : ℕ) → BlockDone u v (block_of at n first) ts' hs' ts'' hs'' next r →
       Blocking w v at n ts hs ts'' hs'' p (first + 128) r
-  blocking-turn v ts'' hs'' r K =
+  blocking_turn v ts'' hs'' r K =
       record {
         done = B.done + 1;
         start = let start = B.start in omega arith;
@@ -217,9 +217,9 @@ module _ {w u : List ℕ} {at : TableAt} {n : ℕ} {ts hs ts' hs' : List ℕ} {p
       }
 
 -- all of them
-pub blocking-end : {w u : List ℕ} {at : TableAt} {n : ℕ} {ts hs ts' hs' : List ℕ} {p first next : ℕ} →
-    Blocking w u at n ts hs ts' hs' p first next → n ≤ first → Crossings-put w u at n ts hs ts' hs' p next
-unfolding crossing-arcs
-blocking-end {n = n} B h =
-    let all : B.done ≡ blocks-of n = let start = B.start in let low = B.low in omega arith in
+pub blocking_end : {w u : List ℕ} {at : TableAt} {n : ℕ} {ts hs ts' hs' : List ℕ} {p first next : ℕ} →
+    Blocking w u at n ts hs ts' hs' p first next → n ≤ first → CrossingsPut w u at n ts hs ts' hs' p next
+unfolding crossing_arcs
+blocking_end {n = n} B h =
+    let all : B.done ≡ blocks_of n = let start = B.start in let low = B.low in omega arith in
     record { long = B.long; behind = B.behind; put = rw all at B.put }

@@ -11,15 +11,15 @@ use Rattle.theory.proofs.Skeletons.SkeletonOrder.{Ordered}
 use Rattle.theory.proofs.Skeletons.TablePlaces.{Row}
 use Rattle.workmap.specs.declared.TableAt.{TableAt}
 use Rattle.memory.specs.Regions.{cell}
-use Rattle.uniting.specs.Uniting.{row-heads, Block-laid}
+use Rattle.uniting.specs.Uniting.{row_heads, BlockLaid}
 use Rattle.blocks.specs.Sweeps.{block_of}
 
 -- the names in topological order, and the rows of heads by places
 pub record Condensed (w : List ℕ) (at : TableAt) (n : ℕ) (N : Network) : Type 0 where
-  pub laid : Block-laid w (block_of at n 0)
+  pub laid : BlockLaid w (block_of at n 0)
   pub proper : Proper N
   pub ordered : Ordered N (cell w at.tops) n
-  pub rows_are : (j : ℕ) → j < n → Row N (cell w at.tops) n j (row-heads w (block_of at n 0) j)
+  pub rows_are : (j : ℕ) → j < n → Row N (cell w at.tops) n j (row_heads w (block_of at n 0) j)
 
 -- the arcs between components that stay, each once; they are between zones, and no more than the network has
 pub record Crossings (N : Network) (es : List Arc) : Type 0 where

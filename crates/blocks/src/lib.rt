@@ -8,10 +8,10 @@
 // A component behind the block reaches none of it, so its row stays clear.
 ghost use Rattle.std.specs.Prelude.{◌≡◌, ◌≤◌};
 ghost use Rattle.memory.specs.Regions.{cell};
-ghost use Rattle.memory.specs.Putting.{Arcs-fit};
-ghost use Rattle.uniting.specs.Uniting.{row-heads, Block-laid};
-ghost use Rattle.blocks.specs.Sweeps.{places-arcs, block-end, block-arcs, block_of, crossing-arcs};
-ghost use Rattle.blocks.specs.Contract.{Places-turned, Block-done, Crossings-put};
+ghost use Rattle.memory.specs.Putting.{ArcsFit};
+ghost use Rattle.uniting.specs.Uniting.{row_heads, BlockLaid};
+ghost use Rattle.blocks.specs.Sweeps.{places_arcs, block_end, block_arcs, block_of, crossing_arcs};
+ghost use Rattle.blocks.specs.Contract.{PlacesTurned, BlockDone, CrossingsPut};
 
 use memory::clear;
 use turning::turn;
@@ -21,7 +21,7 @@ use workmap::TableAt;
 // The place behind the last component that is of the block.
 fn end_of(places: usize, first: usize) -> usize
     requires { first ≤ 1024 }
-    ensures { result ≡ block-end places first }
+    ensures { result ≡ block_end places first }
 {
     if first + 128 < places {
         return first + 128;
@@ -38,11 +38,11 @@ fn sweep(
     heads: &mut [u16],
     put: usize,
 ) -> usize
-    requires block_laid { Block-laid work.old b }
+    requires block_laid { BlockLaid work.old b }
     requires end_le_places { end ≤ b.places }
-    requires arcs_fit { Arcs-fit tails.old heads.old put
-        (places-arcs (cell work.old b.tops) work.old b.first (row-heads work.old b) end end) }
-    ensures { Places-turned work.old work.new b end tails.old
+    requires arcs_fit { ArcsFit tails.old heads.old put
+        (places_arcs (cell work.old b.tops) work.old b.first (row_heads work.old b) end end) }
+    ensures { PlacesTurned work.old work.new b end tails.old
         heads.old tails.new heads.new put result }
 {
     let mut left = end;
@@ -57,11 +57,11 @@ fn sweep(
 
 // One block, in a table that is cleared first. Answers the next free place behind `put`.
 fn block(work: &mut [u16], b: Block, tails: &mut [u16], heads: &mut [u16], put: usize) -> usize
-    requires block_laid { Block-laid work.old b }
+    requires block_laid { BlockLaid work.old b }
     requires first_bound { b.first ≤ 1024 }
-    requires arcs_fit { Arcs-fit tails.old heads.old put
-        (block-arcs (cell work.old b.tops) work.old b.places b.first (row-heads work.old b)) }
-    ensures { Block-done work.old work.new b tails.old
+    requires arcs_fit { ArcsFit tails.old heads.old put
+        (block_arcs (cell work.old b.tops) work.old b.places b.first (row_heads work.old b)) }
+    ensures { BlockDone work.old work.new b tails.old
         heads.old tails.new heads.new put result }
 {
     let end = end_of(b.places, b.first);
@@ -79,9 +79,9 @@ pub fn cross(
     heads: &mut [u16],
     put: usize,
 ) -> usize
-    requires block_laid { Block-laid work.old (block_of at places 0) }
-    requires arcs_fit { Arcs-fit tails.old heads.old put (crossing-arcs work.old at places) }
-    ensures { Crossings-put work.old work.new at places tails.old
+    requires block_laid { BlockLaid work.old (block_of at places 0) }
+    requires arcs_fit { ArcsFit tails.old heads.old put (crossing_arcs work.old at places) }
+    ensures { CrossingsPut work.old work.new at places tails.old
         heads.old tails.new heads.new put result }
 {
     let mut first = 0;

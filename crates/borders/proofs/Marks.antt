@@ -1,7 +1,7 @@
 -- The memory while arcs are noted.
---   names-around            names stay;   room-around   so the memory keeps its room
---   noted-same, noted_read  an arc whose ends have one name changes nothing; another raises two places
---   marking-none, marking-more   no arc is noted yet; one more is
+--   names_around            names stay;   room_around   so the memory keeps its room
+--   noted_same, noted_read  an arc whose ends have one name changes nothing; another raises two places
+--   marking_none, marking_more   no arc is noted yet; one more is
 -- The place of a name c is raised by an arc exactly where the arc's one end has the name c and the other has not.
 -- Assumes nothing.
 use mathlib.Core.Path.{◌≡◌, refl, sym, ◌∙◌}
@@ -15,54 +15,54 @@ use lib.ListN.{length, get_or, set, take, length-set}
 use lib.Seq.{get_or-set_same, get_or-set_other, drop-set-lt}
 use borrow.Author.Tests.{eq-eqb, ne_eqb}
 use Rattle.rules.specs.Network.{◌⟶◌}
-use Rattle.rules.specs.Calls.{arcs-of}
+use Rattle.rules.specs.Calls.{arcs_of}
 use Rattle.workmap.specs.declared.KindsAt.{KindsAt}
 use Rattle.memory.specs.Regions.{cell}
-use Rattle.memory.proofs.Regions.{at-kept}
+use Rattle.memory.proofs.Regions.{at_kept}
 use Rattle.memory.proofs.Numbers.{same?}
-use Rattle.arccounts.proofs.Heads.{arcs-more}
-use Rattle.borders.specs.Borders.{comes, goes, raised, Around, Kinds-room, Noted, Marking, Markable}
-use Rattle.borders.proofs.Tests.{raised-one}
+use Rattle.arccounts.proofs.Heads.{arcs_more}
+use Rattle.borders.specs.Borders.{comes, goes, raised, Around, KindsRoom, Noted, Marking, Markable}
+use Rattle.borders.proofs.Tests.{raised_one}
 
 -- Names are kept.
-pub names-around : {k : KindsAt} {w w' : List ℕ} → Kinds-room k w → Around k w w' →
+pub names_around : {k : KindsAt} {w w' : List ℕ} → KindsRoom k w → Around k w w' →
     (v : ℕ) → cell w' k.names v ≡ cell w k.names v
-names-around {k} {w} {w'} R A v =
-    at-kept w w' (k.exited + k.zones) (k.names + v) (omega (arith, R.exited-low)) A.back
+names_around {k} {w} {w'} R A v =
+    at_kept w w' (k.exited + k.zones) (k.names + v) (omega (arith, R.exited_low)) A.back
 
 -- The memory keeps its room.
-pub room-around : {k : KindsAt} {w w' : List ℕ} → Kinds-room k w → Around k w w' → Kinds-room k w'
-room-around R A =
+pub room_around : {k : KindsAt} {w w' : List ℕ} → KindsRoom k w → Around k w w' → KindsRoom k w'
+room_around R A =
     record {
       small = R.small;
-      entered-low = R.entered-low;
-      exited-low = R.exited-low;
+      entered_low = R.entered_low;
+      exited_low = R.exited_low;
       fits = omega (arith, R.fits, A.long);
-      zone = λ v l. rw (names-around R A v) (R.zone v l);
+      zone = λ v l. rw (names_around R A v) (R.zone v l);
     }
 
 -- Where both ends have one name, nothing is raised.
-raised-none : (b : Bool) (x : ℕ) → x ≡ raised (b && not b) x
-raised-none true x = refl
-raised-none false x = refl
+raised_none : (b : Bool) (x : ℕ) → x ≡ raised (b && not b) x
+raised_none true x = refl
+raised_none false x = refl
 
 -- Where the ends have the names x and y, which differ, the place of x alone is raised.
-raised-put : (x y c old new : ℕ) → x ≢ y → (c ≡ x → new ≡ 1) → (c ≢ x → new ≡ old) →
+raised_put : (x y c old new : ℕ) → x ≢ y → (c ≡ x → new ≡ 1) → (c ≢ x → new ≡ old) →
     new ≡ raised (eqb x c && not (eqb y c)) old
-raised-put x y c old new ne hit miss =
+raised_put x y c old new ne hit miss =
     elim (same? c x) [
       | inl e ↦ rw (eq-eqb x c (sym e), ne_eqb y c (λ q. ne (sym e ∙ sym q))) (hit e)
       | inr e ↦ rw (ne_eqb x c (λ q. e (sym q))) (miss e)
     ]
 
 -- An arc whose ends have one name changes nothing.
-pub noted-same : {k : KindsAt} {w : List ℕ} (tail head : ℕ) → cell w k.names tail ≡ cell w k.names head →
+pub noted_same : {k : KindsAt} {w : List ℕ} (tail head : ℕ) → cell w k.names tail ≡ cell w k.names head →
     Noted k tail head w w
-noted-same {k} {w} tail head e =
+noted_same {k} {w} tail head e =
     record {
       around = record { long = refl; back = refl };
-      entered = λ c l. rw e (raised-none (eqb (cell w k.names head) c) (cell w k.entered c));
-      exited = λ c l. rw e (raised-none (eqb (cell w k.names head) c) (cell w k.exited c));
+      entered = λ c l. rw e (raised_none (eqb (cell w k.names head) c) (cell w k.entered c));
+      exited = λ c l. rw e (raised_none (eqb (cell w k.names head) c) (cell w k.exited c));
     }
 
 -- the ends of an arc have the names a and b, which differ, and both their places are raised
@@ -70,17 +70,17 @@ module _
     {k : KindsAt}
     {w w' : List ℕ}
     {tail head a b : ℕ}
-    (R : Kinds-room k w)
-    (tail-zone : tail < k.zones)
-    (head-zone : head < k.zones)
+    (R : KindsRoom k w)
+    (tail_zone : tail < k.zones)
+    (head_zone : head < k.zones)
     (tail_name : a ≡ cell w k.names tail)
-    (head-name : b ≡ cell w k.names head)
+    (head_name : b ≡ cell w k.names head)
     (ne : a ≢ b)
     (made : w' ≡ set (set w (k.entered + b) 1) (k.exited + a) 1)
   where
     -- Both names are zones.
     low : (a < k.zones) × (b < k.zones)
-    low = (rw (sym tail_name) at (R.zone tail tail-zone), rw (sym head-name) at (R.zone head head-zone))
+    low = (rw (sym tail_name) at (R.zone tail tail_zone), rw (sym head_name) at (R.zone head head_zone))
 
     -- Elsewhere the memory has what it had.
     other : (j : ℕ) → j ≢ k.entered + b → j ≢ k.exited + a → get_or w' j 0 ≡ get_or w j 0
@@ -90,57 +90,57 @@ module _
         ∙ get_or-set_other w (k.entered + b) j 1 0 p)
 
     -- Behind the two regions nothing changes.
-    noted-around : Around k w w'
-    noted-around =
+    noted_around : Around k w w'
+    noted_around =
         record {
           long = rw made (simp length-set);
           back =
               rw made
               (drop-set-lt (k.exited + k.zones) (set w (k.entered + b) 1) (k.exited + a) 1 (omega (arith, low))
-              ∙ drop-set-lt (k.exited + k.zones) w (k.entered + b) 1 (omega (arith, low, R.entered-low)));
+              ∙ drop-set-lt (k.exited + k.zones) w (k.entered + b) 1 (omega (arith, low, R.entered_low)));
         }
 
     -- The place of the head's name is raised.
-    entered-put : cell w' k.entered b ≡ 1
-    entered-put =
+    entered_put : cell w' k.entered b ≡ 1
+    entered_put =
         rw made
         (get_or-set_other (set w (k.entered + b) 1) (k.exited + a) (k.entered + b) 1 0
-        (λ e. omega (arith, low, R.entered-low))
-        ∙ get_or-set_same w (k.entered + b) 1 0 (omega (arith, low, R.entered-low, R.exited-low, R.fits)))
+        (λ e. omega (arith, low, R.entered_low))
+        ∙ get_or-set_same w (k.entered + b) 1 0 (omega (arith, low, R.entered_low, R.exited_low, R.fits)))
 
     -- The place of the tail's name is raised.
-    exited-put : cell w' k.exited a ≡ 1
-    exited-put =
+    exited_put : cell w' k.exited a ≡ 1
+    exited_put =
         rw made
         (get_or-set_same (set w (k.entered + b) 1) (k.exited + a) 1 0
-        (simp length-set (omega (arith, low, R.exited-low, R.fits))))
+        (simp length-set (omega (arith, low, R.exited_low, R.fits))))
 
     -- The arc is noted at both names.
     pub noted_read : Noted k tail head w w'
     noted_read =
         record {
-          around = noted-around;
+          around = noted_around;
           entered =
               λ c l.
-              rw (sym head-name, sym tail_name)
-              (raised-put b a c (cell w k.entered c) (cell w' k.entered c) (λ e. ne (sym e))
-              (λ e. rw e entered-put)
-              (λ e. other (k.entered + c) (λ q. e (omega arith)) (λ q. omega (arith, R.entered-low))));
+              rw (sym head_name, sym tail_name)
+              (raised_put b a c (cell w k.entered c) (cell w' k.entered c) (λ e. ne (sym e))
+              (λ e. rw e entered_put)
+              (λ e. other (k.entered + c) (λ q. e (omega arith)) (λ q. omega (arith, R.entered_low))));
           exited =
               λ c l.
-              rw (sym head-name, sym tail_name)
-              (raised-put a b c (cell w k.exited c) (cell w' k.exited c) ne
-              (λ e. rw e exited-put)
-              (λ e. other (k.exited + c) (λ q. omega (arith, low, R.entered-low)) (λ q. e (omega arith))));
+              rw (sym head_name, sym tail_name)
+              (raised_put a b c (cell w k.exited c) (cell w' k.exited c) ne
+              (λ e. rw e exited_put)
+              (λ e. other (k.exited + c) (λ q. omega (arith, low, R.entered_low)) (λ q. e (omega arith))));
         }
 
 -- No arc is noted yet.
-pub marking-none : {k : KindsAt} {ts hs w : List ℕ} → Markable k ts hs w → Marking k (arcs-of ts hs) 0 w w
-marking-none M =
+pub marking_none : {k : KindsAt} {ts hs w : List ℕ} → Markable k ts hs w → Marking k (arcs_of ts hs) 0 w w
+marking_none M =
     record {
       around = record { long = refl; back = refl };
-      entered = M.entered-clear;
-      exited = M.exited-clear;
+      entered = M.entered_clear;
+      exited = M.exited_clear;
     }
 
 -- What two steps change lies before the same place.
@@ -148,22 +148,22 @@ around_then : {k : KindsAt} {w w' w'' : List ℕ} → Around k w w' → Around k
 around_then A B = record { long = B.long ∙ A.long; back = B.back ∙ A.back }
 
 -- One arc more is noted.
-pub marking-more : {k : KindsAt} {w₀ w w' : List ℕ} (ts hs : List ℕ) {i : ℕ} → i < length ts → i < length hs →
-    Kinds-room k w₀ → Marking k (arcs-of ts hs) i w₀ w → Noted k (get_or ts i 0) (get_or hs i 0) w w' →
-    Marking k (arcs-of ts hs) (i + 1) w₀ w'
-marking-more {k} {w₀} {w} {w'} ts hs {i} l h R M N =
-    let t = names-around R M.around (get_or ts i 0) in
-    let u = names-around R M.around (get_or hs i 0) in
+pub marking_more : {k : KindsAt} {w₀ w w' : List ℕ} (ts hs : List ℕ) {i : ℕ} → i < length ts → i < length hs →
+    KindsRoom k w₀ → Marking k (arcs_of ts hs) i w₀ w → Noted k (get_or ts i 0) (get_or hs i 0) w w' →
+    Marking k (arcs_of ts hs) (i + 1) w₀ w'
+marking_more {k} {w₀} {w} {w'} ts hs {i} l h R M N =
+    let t = names_around R M.around (get_or ts i 0) in
+    let u = names_around R M.around (get_or hs i 0) in
     let e = get_or ts i 0 ⟶ get_or hs i 0 in
     let f = cell w₀ k.names in
     record {
       around = around_then M.around N.around;
       entered =
           λ c z.
-          rw (arcs-more ts hs i l h)
-          (rw (t, u, M.entered c z) at (N.entered c z) ∙ raised-one (comes f c) (take i (arcs-of ts hs)) e);
+          rw (arcs_more ts hs i l h)
+          (rw (t, u, M.entered c z) at (N.entered c z) ∙ raised_one (comes f c) (take i (arcs_of ts hs)) e);
       exited =
           λ c z.
-          rw (arcs-more ts hs i l h)
-          (rw (t, u, M.exited c z) at (N.exited c z) ∙ raised-one (goes f c) (take i (arcs-of ts hs)) e);
+          rw (arcs_more ts hs i l h)
+          (rw (t, u, M.exited c z) at (N.exited c z) ∙ raised_one (goes f c) (take i (arcs_of ts hs)) e);
     }

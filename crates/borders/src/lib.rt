@@ -1,14 +1,14 @@
 // Which components an arc comes into from another, and which one goes out of to another, in lent work memory, where
 // each zone's name stands: by one pass over the arcs, each noted at the names of its ends.
 ghost use Rattle.std.specs.Prelude.{◌<◌, length};
-ghost use Rattle.rules.specs.Calls.{arcs-of};
-ghost use Rattle.borders.specs.Borders.{Kinds-room, Noted, Markable, Marking};
+ghost use Rattle.rules.specs.Calls.{arcs_of};
+ghost use Rattle.borders.specs.Borders.{KindsRoom, Noted, Markable, Marking};
 
 use workmap::KindsAt;
 
 // Notes an arc at the names of its ends, where they differ.
 fn note(at: KindsAt, tail: u16, head: u16, work: &mut [u16])
-    requires { Kinds-room at work.old × ((tail < at.zones) × (head < at.zones)) }
+    requires { KindsRoom at work.old × ((tail < at.zones) × (head < at.zones)) }
     ensures { Noted at tail head work.old work.new }
 {
     let names = at.names;
@@ -28,7 +28,7 @@ fn note(at: KindsAt, tail: u16, head: u16, work: &mut [u16])
 // Notes every arc. The two regions are clear at the start.
 pub fn mark(at: KindsAt, tails: &[u16], heads: &[u16], work: &mut [u16])
     requires { Markable at tails.now heads.now work.old }
-    ensures { Marking at (arcs-of tails.now heads.now) (length tails.now)
+    ensures { Marking at (arcs_of tails.now heads.now) (length tails.now)
         work.old work.new }
 {
     let mut i = 0;

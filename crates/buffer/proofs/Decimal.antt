@@ -1,9 +1,9 @@
 -- Laws of decimal digits: the last digit of a number stands last, after the digits of its tenth.
 --   Low k n         n has at most k + 1 digits: n < 10 ^ (k + 1)
---   decimal-low     a number below ten is one digit
---   decimal-high    any other number is its tenth's digits and then its last digit
---   decimal-length  how long the digits are at most
---   decimal-most    the digits of any number are at most twenty
+--   decimal_low     a number below ten is one digit
+--   decimal_high    any other number is its tenth's digits and then its last digit
+--   decimal_length  how long the digits are at most
+--   decimal_most    the digits of any number are at most twenty
 -- The idea: digits may be written before any bytes, and steps that a number does not need change nothing.
 -- Assumes nothing.
 use Prim.Native.Nat.{ℕ, zero, suc, ◌+◌, ◌/◌, ◌%◌, ◌^◌, ◌≤◌, ◌<◌}
@@ -23,16 +23,16 @@ pub record Low (k n : ℕ) : Type 0 where
   pub below : n < 10 ^ suc k
 
 -- a number of one digit is below ten
-low-zero : {n : ℕ} → Low 0 n → n < 10
-low-zero l = l.below
+low_zero : {n : ℕ} → Low 0 n → n < 10
+low_zero l = l.below
 
 -- a tenth has a digit less
-low-tenth : {k n : ℕ} → Low (suc k) n → Low k (n / 10)
-low-tenth {k} {n} l = record { below = omega (arith, l.below, pow-suc 10 (suc k)) }
+low_tenth : {k n : ℕ} → Low (suc k) n → Low k (n / 10)
+low_tenth {k} {n} l = record { below = omega (arith, l.below, pow-suc 10 (suc k)) }
 
 -- a number is below ten or not
-ten-or-more : (n : ℕ) → (n < 10) ⊎ (10 ≤ n)
-ten-or-more n = go (ltb n 10) refl
+ten_or_more : (n : ℕ) → (n < 10) ⊎ (10 ≤ n)
+ten_or_more n = go (ltb n 10) refl
   where
     go : (t : Bool) → ltb n 10 ≡ t → (n < 10) ⊎ (10 ≤ n)
     go true e = inl (ltb-true n 10 e)
@@ -44,76 +44,76 @@ unfolding digits
 digits_low k n ds h = rw (lt-ltb n 10 h, digits)
 
 -- the digits of any other
-digits-high : (k n : ℕ) (ds : List ℕ) → 10 ≤ n → digits (suc k) n ds ≡ digits k (n / 10) ((48 + n % 10) ∷ ds)
+digits_high : (k n : ℕ) (ds : List ℕ) → 10 ≤ n → digits (suc k) n ds ≡ digits k (n / 10) ((48 + n % 10) ∷ ds)
 unfolding digits
-digits-high k n ds h = rw (le-ltb n 10 h, digits)
+digits_high k n ds h = rw (le-ltb n 10 h, digits)
 
 -- the digits written before ds are the digits alone, and then ds
-digits-before : (k n : ℕ) (ds : List ℕ) → digits k n ds ≡ digits k n [] ++ ds
+digits_before : (k n : ℕ) (ds : List ℕ) → digits k n ds ≡ digits k n [] ++ ds
 unfolding digits
-digits-before zero n ds = refl
-digits-before (suc k) n ds =
+digits_before zero n ds = refl
+digits_before (suc k) n ds =
     ⊎_elim
     (λ (h : n < 10). rw (digits_low k n ds h, digits_low k n [] h))
     (λ (h : 10 ≤ n).
     let d : List ℕ = (48 + n % 10) ∷ [] in
-    rw (digits-high k n ds h, digits-high k n [] h)
-    (digits-before k (n / 10) (d ++ ds) ∙ sym (append_assoc (digits k (n / 10) []) d ds)
-    ∙ ap (λ (l : List ℕ). l ++ ds) (sym (digits-before k (n / 10) d))))
-    (ten-or-more n)
+    rw (digits_high k n ds h, digits_high k n [] h)
+    (digits_before k (n / 10) (d ++ ds) ∙ sym (append_assoc (digits k (n / 10) []) d ds)
+    ∙ ap (λ (l : List ℕ). l ++ ds) (sym (digits_before k (n / 10) d))))
+    (ten_or_more n)
 
 -- a step that the number does not need changes nothing
-digits-spare : (k n : ℕ) (ds : List ℕ) → Low k n → digits (suc (suc k)) n ds ≡ digits (suc k) n ds
-digits-spare zero n ds l = rw (digits_low 1 n ds (low-zero l), digits_low 0 n ds (low-zero l))
-digits-spare (suc k) n ds l =
+digits_spare : (k n : ℕ) (ds : List ℕ) → Low k n → digits (suc (suc k)) n ds ≡ digits (suc k) n ds
+digits_spare zero n ds l = rw (digits_low 1 n ds (low_zero l), digits_low 0 n ds (low_zero l))
+digits_spare (suc k) n ds l =
     ⊎_elim
     (λ (h : n < 10). rw (digits_low (suc (suc k)) n ds h, digits_low (suc k) n ds h))
     (λ (h : 10 ≤ n).
-    rw (digits-high (suc (suc k)) n ds h, digits-high (suc k) n ds h)
-    (digits-spare k (n / 10) ((48 + n % 10) ∷ ds) (low-tenth l)))
-    (ten-or-more n)
+    rw (digits_high (suc (suc k)) n ds h, digits_high (suc k) n ds h)
+    (digits_spare k (n / 10) ((48 + n % 10) ∷ ds) (low_tenth l)))
+    (ten_or_more n)
 
 -- however many steps there are, a number of at most k + 1 digits gets no more
-digits-length : (j k n : ℕ) (ds : List ℕ) → Low k n → length (digits j n ds) ≤ suc k + length ds
+digits_length : (j k n : ℕ) (ds : List ℕ) → Low k n → length (digits j n ds) ≤ suc k + length ds
 unfolding digits
-digits-length zero k n ds l = omega arith
-digits-length (suc j) zero n ds l = rw (digits_low j n ds (low-zero l)) (omega arith)
-digits-length (suc j) (suc k) n ds l =
+digits_length zero k n ds l = omega arith
+digits_length (suc j) zero n ds l = rw (digits_low j n ds (low_zero l)) (omega arith)
+digits_length (suc j) (suc k) n ds l =
     ⊎_elim
     (λ (h : n < 10). rw (digits_low j n ds h) (omega arith))
     (λ (h : 10 ≤ n).
-    rw (digits-high j n ds h) (omega (arith, digits-length j k (n / 10) ((48 + n % 10) ∷ ds) (low-tenth l))))
-    (ten-or-more n)
+    rw (digits_high j n ds h) (omega (arith, digits_length j k (n / 10) ((48 + n % 10) ∷ ds) (low_tenth l))))
+    (ten_or_more n)
 
 -- a number below ten is one digit
-pub decimal-low : (n : ℕ) → n < 10 → decimal n ≡ (48 + n) ∷ []
+pub decimal_low : (n : ℕ) → n < 10 → decimal n ≡ (48 + n) ∷ []
 unfolding decimal
-decimal-low n h = digits_low 19 n [] h
+decimal_low n h = digits_low 19 n [] h
 
 -- any other number is its tenth's digits and then its last digit
-pub decimal-high : (n : ℕ) → 10 ≤ n → n < 10 ^ 20 → decimal n ≡ decimal (n / 10) ++ decimal (n % 10)
+pub decimal_high : (n : ℕ) → 10 ≤ n → n < 10 ^ 20 → decimal n ≡ decimal (n / 10) ++ decimal (n % 10)
 unfolding decimal
-decimal-high n h l =
-    let spare = digits-spare 18 (n / 10) [] (low-tenth (record { below = l })) in
-    rw (digits-high 19 n [] h, digits_low 19 (n % 10) [] (omega arith), spare)
-    (digits-before 19 (n / 10) ((48 + n % 10) ∷ []))
+decimal_high n h l =
+    let spare = digits_spare 18 (n / 10) [] (low_tenth (record { below = l })) in
+    rw (digits_high 19 n [] h, digits_low 19 (n % 10) [] (omega arith), spare)
+    (digits_before 19 (n / 10) ((48 + n % 10) ∷ []))
 
 -- a number below 10 ^ (k + 1) has at most k + 1 digits
-pub decimal-length : (k n : ℕ) → n < 10 ^ suc k → length (decimal n) ≤ suc k
+pub decimal_length : (k n : ℕ) → n < 10 ^ suc k → length (decimal n) ≤ suc k
 unfolding decimal
-decimal-length k n l = omega (arith, digits-length 20 k n [] (record { below = l }))
+decimal_length k n l = omega (arith, digits_length 20 k n [] (record { below = l }))
 
 -- a step writes one digit at most
-digits-most : (k n : ℕ) (ds : List ℕ) → length (digits k n ds) ≤ k + length ds
+digits_most : (k n : ℕ) (ds : List ℕ) → length (digits k n ds) ≤ k + length ds
 unfolding digits
-digits-most zero n ds = omega arith
-digits-most (suc k) n ds =
+digits_most zero n ds = omega arith
+digits_most (suc k) n ds =
     ⊎_elim
     (λ (h : n < 10). rw (digits_low k n ds h) (omega arith))
-    (λ (h : 10 ≤ n). rw (digits-high k n ds h) (omega (arith, digits-most k (n / 10) ((48 + n % 10) ∷ ds))))
-    (ten-or-more n)
+    (λ (h : 10 ≤ n). rw (digits_high k n ds h) (omega (arith, digits_most k (n / 10) ((48 + n % 10) ∷ ds))))
+    (ten_or_more n)
 
 -- the digits of any number are at most twenty
-pub decimal-most : (n : ℕ) → length (decimal n) ≤ 20
+pub decimal_most : (n : ℕ) → length (decimal n) ≤ 20
 unfolding decimal
-decimal-most n = omega (arith, digits-most 20 n [])
+decimal_most n = omega (arith, digits_most 20 n [])

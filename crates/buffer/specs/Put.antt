@@ -1,6 +1,6 @@
 -- What it means that bytes are put into a lent buffer.
 --   put out at s                 the buffer out with the bytes s from place `at` on
---   Text-room out at s                s fits into out from `at` on
+--   TextRoom out at s                s fits into out from `at` on
 --   Written out at s end after   s was put into out from `at` on, up to place `end`, and the buffer is now `after`
 -- Assumes nothing.
 use Rattle.std.specs.Prelude.{ℕ, ◌+◌, ◌≤◌, ◌≡◌, List, ◌++◌, length, take, drop}
@@ -10,7 +10,7 @@ unfoldable pub put : List ℕ → ℕ → List ℕ → List ℕ
 put out at s = take at out ++ s ++ drop (at + length s) out
 
 -- the bytes s fit into the buffer from place `at` on
-pub record Text-room (out : List ℕ) (at : ℕ) (s : List ℕ) : Type 0 where
+pub record TextRoom (out : List ℕ) (at : ℕ) (s : List ℕ) : Type 0 where
   pub fits : at + length s ≤ length out
 
 -- the bytes s were put from place `at` on: where they stop, and the buffer after it

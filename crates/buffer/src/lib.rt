@@ -2,12 +2,12 @@
 // place on, and answers with the place where it stops; every other byte of the buffer stays as it came.
 ghost use Rattle.std.specs.Prelude.{◌<◌};
 ghost use Rattle.rules.specs.Text.{decimal};
-ghost use Rattle.buffer.specs.Put.{Text-room, Written};
+ghost use Rattle.buffer.specs.Put.{TextRoom, Written};
 ghost use Rattle.buffer.specs.Words.{labelled, two};
 
 // Puts the bytes s into out from place `at` on, and answers with the place after them.
 pub fn put_bytes(out: &mut [u8], at: usize, s: &[u8]) -> usize
-    requires { Text-room out.old at s.now }
+    requires { TextRoom out.old at s.now }
     ensures { Written out.old at s.now result out.new }
 {
     let mut i = 0;
@@ -21,7 +21,7 @@ pub fn put_bytes(out: &mut [u8], at: usize, s: &[u8]) -> usize
 // Puts one decimal digit.
 fn put_digit(out: &mut [u8], at: usize, digit: usize) -> usize
     requires digit_bound { digit < 10 }
-    requires text_room { Text-room out.old at (decimal digit) }
+    requires text_room { TextRoom out.old at (decimal digit) }
     ensures { Written out.old at (decimal digit) result out.new }
 {
     out[at] = 48 + digit as u8;
@@ -30,7 +30,7 @@ fn put_digit(out: &mut [u8], at: usize, digit: usize) -> usize
 
 // Puts the decimal digits of a number: those of its tenth, and then its last digit.
 pub fn put_number(out: &mut [u8], at: usize, n: usize) -> usize
-    requires { Text-room out.old at (decimal n) }
+    requires { TextRoom out.old at (decimal n) }
     ensures { Written out.old at (decimal n) result out.new }
 {
     if n < 10 {
@@ -42,7 +42,7 @@ pub fn put_number(out: &mut [u8], at: usize, n: usize) -> usize
 
 // Puts a word and then a number.
 pub fn put_labelled(out: &mut [u8], at: usize, label: &[u8], n: usize) -> usize
-    requires { Text-room out.old at (labelled label.now n) }
+    requires { TextRoom out.old at (labelled label.now n) }
     ensures { Written out.old at (labelled label.now n) result out.new }
 {
     let end = put_bytes(out, at, label);
@@ -51,7 +51,7 @@ pub fn put_labelled(out: &mut [u8], at: usize, label: &[u8], n: usize) -> usize
 
 // Puts two words, each with a number after it.
 pub fn put_two(out: &mut [u8], at: usize, first: &[u8], m: usize, second: &[u8], n: usize) -> usize
-    requires { Text-room out.old at (two first.now m second.now n) }
+    requires { TextRoom out.old at (two first.now m second.now n) }
     ensures { Written out.old at (two first.now m second.now n)
         result out.new }
 {

@@ -3,7 +3,7 @@
 // that is computed over all its rows and the statement that every row is right (specs/Cases.antt). Here each row of
 // the array is shown to be that row.
 ghost use Rattle.std.specs.Prelude.{◌≡◌, [], map, ◌<◌, get_or};
-ghost use Rattle.rules.specs.Cases.{rows, row-numbers};
+ghost use Rattle.rules.specs.Cases.{rows, row_numbers};
 
 // A row is four lists. The first has the letter (45, a dash, where there is none), what is asked for (0 the plan, 1
 // the skeleton, 2 reading a file, 3 a plan that is refused, 4 whether a zone reaches another), the zone count, how many
@@ -298,7 +298,7 @@ const ROWS: [[[u16; 10]; 4]; 40] = [
 // The row of index i.
 pub fn row_at(i: usize) -> [[u16; 10]; 4]
     requires { i < 40 }
-    ensures { result ≡ get_or (map row-numbers rows) i [] }
+    ensures { result ≡ get_or (map row_numbers rows) i [] }
 {
     ROWS[i]
 }

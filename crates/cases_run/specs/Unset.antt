@@ -1,9 +1,9 @@
 -- The records that are lent to PLAN.
---   unset-links     ten records that no plan has
+--   unset_links     ten records that no plan has
 use Rattle.std.specs.Prelude.{List, replicate}
 use Rattle.rules.specs.declared.Why.TheVariants.{Back}
 use Rattle.rules.specs.declared.Link.{Link}
 
 -- ten records that no plan has
-abbrev pub unset-links : List Link
-unset-links = replicate 10 (record { from = 999; to = 999; why = Back })
+abbrev pub unset_links : List Link
+unset_links = replicate 10 (record { from = 999; to = 999; why = Back })

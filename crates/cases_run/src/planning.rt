@@ -1,8 +1,8 @@
 // PLAN by lists and by records, each brought to the same outcome.
 ghost use Rattle.std.specs.Prelude.{◌≡◌};
-ghost use Rattle.rules.specs.Answers.{plan-told};
-ghost use Rattle.rules.specs.Promises.{Records-promise};
-ghost use Rattle.cases_run.specs.Unset.{unset-links};
+ghost use Rattle.rules.specs.Answers.{plan_told};
+ghost use Rattle.rules.specs.Promises.{RecordsPromise};
+ghost use Rattle.cases_run.specs.Unset.{unset_links};
 
 use outcomes::outcome::{Columns, Outcome};
 use outcomes::{lent, outcome};
@@ -36,7 +36,7 @@ pub fn by_lists(zones: usize, tails: &[u16], heads: &[u16], gone: &[u16]) -> Out
 
 // Ten records that no plan has.
 pub fn unset() -> [Link; 10]
-    ensures { result ≡ unset-links }
+    ensures { result ≡ unset_links }
 {
     [Link {
         from: lent::UNSET,
@@ -47,8 +47,8 @@ pub fn unset() -> [Link; 10]
 
 // Asks PLAN over ten records, at least two more than there are zones.
 fn ask_records(zones: usize, tails: &[u16], heads: &[u16], gone: &[u16], work: &mut [u16]) -> Asked
-    ensures { Records-promise zones tails.now heads.now gone.now unset-links
-        work.old result.links work.new (plan-told result.answer) }
+    ensures { RecordsPromise zones tails.now heads.now gone.now unset_links
+        work.old result.links work.new (plan_told result.answer) }
 {
     let mut links = unset();
     let answer = plan_records(zones, tails, heads, gone, &mut links, work);

@@ -1,7 +1,7 @@
 // The C interface: each call of linkplan under a C name, with its answer in eight numbers. include/linkplan.h says the
 // same to a C programmer.
-ghost use Rattle.rules.specs.Promises.{Read-promise, Write-promise, Strong-promise, Reach-promise, Skeleton-promise};
-ghost use Rattle.rules.specs.Promises.{Plan-promise, C-promise};
+ghost use Rattle.rules.specs.Promises.{ReadPromise, WritePromise, StrongPromise, ReachPromise, SkeletonPromise};
+ghost use Rattle.rules.specs.Promises.{PlanPromise, CPromise};
 
 use eight::{put_plan, put_reach, put_read, put_skeleton, put_strong, put_write};
 use netfile::{read, write};
@@ -17,7 +17,7 @@ pub extern "C" fn linkplan_read(
     heads: &mut [u16],
     answer: &mut [u64; 8],
 )
-    ensures { C-promise (Read-promise file.now tails.old heads.old
+    ensures { CPromise (ReadPromise file.now tails.old heads.old
         tails.new heads.new)
         answer.new }
 {
@@ -35,7 +35,7 @@ pub extern "C" fn linkplan_write(
     file: &mut [u8],
     answer: &mut [u64; 8],
 )
-    ensures { C-promise (Write-promise zones tails.now heads.now gone.now
+    ensures { CPromise (WritePromise zones tails.now heads.now gone.now
         file.old file.new)
         answer.new }
 {
@@ -53,7 +53,7 @@ pub extern "C" fn linkplan_strong(
     work: &mut [u16],
     answer: &mut [u64; 8],
 )
-    ensures { C-promise (Strong-promise zones tails.now heads.now gone.now
+    ensures { CPromise (StrongPromise zones tails.now heads.now gone.now
         work.old work.new)
         answer.new }
 {
@@ -73,7 +73,7 @@ pub extern "C" fn linkplan_reach(
     work: &mut [u16],
     answer: &mut [u64; 8],
 )
-    ensures { C-promise (Reach-promise zones tails.now heads.now gone.now
+    ensures { CPromise (ReachPromise zones tails.now heads.now gone.now
         from to work.old work.new)
         answer.new }
 {
@@ -93,7 +93,7 @@ pub extern "C" fn linkplan_skeleton(
     work: &mut [u16],
     answer: &mut [u64; 8],
 )
-    ensures { C-promise (Skeleton-promise zones tails.now heads.now gone.now
+    ensures { CPromise (SkeletonPromise zones tails.now heads.now gone.now
         out_tails.old out_heads.old work.old
         out_tails.new out_heads.new work.new)
         answer.new }
@@ -115,7 +115,7 @@ pub extern "C" fn linkplan_plan(
     work: &mut [u16],
     answer: &mut [u64; 8],
 )
-    ensures { C-promise (Plan-promise zones tails.now heads.now gone.now
+    ensures { CPromise (PlanPromise zones tails.now heads.now gone.now
         from.old to.old why.old work.old
         from.new to.new why.new work.new)
         answer.new }

@@ -1,6 +1,6 @@
 -- Records of links that stand in lent work memory as three columns of numbers.
---   why-numbered k       the why of a number
---   Link-stands w at i        the memory is long enough for the record of index i
+--   why_numbered k       the why of a number
+--   LinkStands w at i        the memory is long enough for the record of index i
 --   link_at w at i       the record of index i, from the columns of starts, ends and whys
 --   Readable w at k      the memory is long enough for the first k records
 --   filled w at ls k     a lent list of records after the first k were stored
@@ -11,20 +11,20 @@ use Rattle.rules.specs.declared.Why.TheVariants.{Ring, Chain, Back}
 use Rattle.rules.specs.declared.Link.{Link}
 
 -- a why, by whether its number is 0, and whether it is 1
-abbrev pub why-told : Bool → Bool → Why
-why-told true one = Ring
-why-told false true = Chain
-why-told false false = Back
+abbrev pub why_told : Bool → Bool → Why
+why_told true one = Ring
+why_told false true = Chain
+why_told false false = Back
 
 -- the why of a number
-abbrev pub why-numbered : ℕ → Why
-why-numbered k = why-told (eqb k 0) (eqb k 1)
+abbrev pub why_numbered : ℕ → Why
+why_numbered k = why_told (eqb k 0) (eqb k 1)
 
 -- the memory is long enough for the record of index i
-pub record Link-stands (w : List ℕ) (at : LinksAt) (i : ℕ) : Type 0 where
-  pub start-in : at.from + i < length w
-  pub end-in : at.to + i < length w
-  pub why-in : at.why + i < length w
+pub record LinkStands (w : List ℕ) (at : LinksAt) (i : ℕ) : Type 0 where
+  pub start_in : at.from + i < length w
+  pub end_in : at.to + i < length w
+  pub why_in : at.why + i < length w
 
 -- the record of index i: its start, its end and the number of its why, each from its column
 abbrev pub link_at : List ℕ → LinksAt → ℕ → Link
@@ -32,12 +32,12 @@ link_at w at i =
     record {
       from = get_or w (at.from + i) 0;
       to = get_or w (at.to + i) 0;
-      why = why-numbered (get_or w (at.why + i) 0);
+      why = why_numbered (get_or w (at.why + i) 0);
     }
 
 -- the memory is long enough for the first k records
 abbrev pub Readable : List ℕ → LinksAt → ℕ → Type 0
-Readable w at k = (i : ℕ) → i < k → Link-stands w at i
+Readable w at k = (i : ℕ) → i < k → LinkStands w at i
 
 -- a lent list of records after the first k were stored
 unfoldable pub filled : List ℕ → LinksAt → List Link → ℕ → List Link

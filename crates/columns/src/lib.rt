@@ -1,13 +1,13 @@
 // Links that stand in lent work memory as three columns of numbers, read as records.
 ghost use Rattle.std.specs.Prelude.{◌≡◌};
-ghost use Rattle.columns.specs.Columns.{why-numbered, Link-stands, link_at};
+ghost use Rattle.columns.specs.Columns.{why_numbered, LinkStands, link_at};
 
 use rules::{Link, Why};
 use workmap::LinksAt;
 
 // The why of a number.
 fn why_of(k: u16) -> Why
-    ensures { result ≡ why-numbered k }
+    ensures { result ≡ why_numbered k }
 {
     match k {
         0 => Why::Ring,
@@ -18,7 +18,7 @@ fn why_of(k: u16) -> Why
 
 // The link of index i, from its three columns.
 pub fn link_at(work: &[u16], at: LinksAt, i: usize) -> Link
-    requires { Link-stands work.now at i }
+    requires { LinkStands work.now at i }
     ensures { result ≡ link_at work.now at i }
 {
     let starts = at.from;

@@ -7,11 +7,11 @@ use Prim.Native.Nat.{ℕ, ◌+◌, ◌≤◌, ◌<◌}
 use native.Mathlib.Omega.{arith}
 use lib.ListN.{length, get_or, take, drop, replicate, get_or-replicate, get_or-append}
 use Rattle.rules.specs.Network.{Arc}
-use Rattle.rules.specs.Calls.{arcs-of}
+use Rattle.rules.specs.Calls.{arcs_of}
 use Rattle.theory.proofs.Files.Accepting.{Fine}
-use Rattle.workmap.specs.Map.{row-places, map_of}
-use Rattle.arccounts.specs.Counts.{heads-of, tails-below}
-use Rattle.arranged.specs.Arranged.{Arranged-at}
+use Rattle.workmap.specs.Map.{row_places, map_of}
+use Rattle.arccounts.specs.Counts.{heads_of, tails_below}
+use Rattle.arranged.specs.Arranged.{ArrangedAt}
 use Rattle.memory.proofs.Numbers.{same?}
 use Rattle.components.specs.Components.{Lent}
 
@@ -28,24 +28,24 @@ three : (P : ℕ → Type 0) (z : ℕ) → z ≤ 2 → P 0 → P 1 → P 2 → P
 three P z l p q r = elim (same? z 2) [ inl e ↦ rw e r | inr e ↦ two P z (omega arith) p q ]
 
 -- The arc is arranged.
-rows : Arranged-at memory (row-places 2 24 27) (arcs-of (0 ∷ []) (1 ∷ []))
-unfolding arcs-of zip_with heads-of tails-below
+rows : ArrangedAt memory (row_places 2 24 27) (arcs_of (0 ∷ []) (1 ∷ []))
+unfolding arcs_of zip_with heads_of tails_below
 rows = record {
   order = omega arith;
-  start = λ z l. three (λ z. get_or (drop 24 memory) z 0 ≡ tails-below z (arcs-of (0 ∷ []) (1 ∷ []))) z l refl refl refl;
-  row = λ z l. two (λ z. take (length (heads-of z (arcs-of (0 ∷ []) (1 ∷ []))))
-      (drop (3 + tails-below z (arcs-of (0 ∷ []) (1 ∷ []))) (drop 24 memory)) ≡ heads-of z (arcs-of (0 ∷ []) (1 ∷ [])))
+  start = λ z l. three (λ z. get_or (drop 24 memory) z 0 ≡ tails_below z (arcs_of (0 ∷ []) (1 ∷ []))) z l refl refl refl;
+  row = λ z l. two (λ z. take (length (heads_of z (arcs_of (0 ∷ []) (1 ∷ []))))
+      (drop (3 + tails_below z (arcs_of (0 ∷ []) (1 ∷ []))) (drop 24 memory)) ≡ heads_of z (arcs_of (0 ∷ []) (1 ∷ [])))
       z l refl refl;
 }
 
 -- The arc turned round is arranged.
-turned : Arranged-at memory (row-places 2 28 31) (arcs-of (1 ∷ []) (0 ∷ []))
-unfolding arcs-of zip_with heads-of tails-below
+turned : ArrangedAt memory (row_places 2 28 31) (arcs_of (1 ∷ []) (0 ∷ []))
+unfolding arcs_of zip_with heads_of tails_below
 turned = record {
   order = omega arith;
-  start = λ z l. three (λ z. get_or (drop 28 memory) z 0 ≡ tails-below z (arcs-of (1 ∷ []) (0 ∷ []))) z l refl refl refl;
-  row = λ z l. two (λ z. take (length (heads-of z (arcs-of (1 ∷ []) (0 ∷ []))))
-      (drop (3 + tails-below z (arcs-of (1 ∷ []) (0 ∷ []))) (drop 28 memory)) ≡ heads-of z (arcs-of (1 ∷ []) (0 ∷ [])))
+  start = λ z l. three (λ z. get_or (drop 28 memory) z 0 ≡ tails_below z (arcs_of (1 ∷ []) (0 ∷ []))) z l refl refl refl;
+  row = λ z l. two (λ z. take (length (heads_of z (arcs_of (1 ∷ []) (0 ∷ []))))
+      (drop (3 + tails_below z (arcs_of (1 ∷ []) (0 ∷ []))) (drop 28 memory)) ≡ heads_of z (arcs_of (1 ∷ []) (0 ∷ [])))
       z l refl refl;
 }
 
@@ -57,13 +57,13 @@ clear i l =
 
 -- The network passes its tests.
 fine : Fine 2 (0 ∷ []) (1 ∷ [])
-unfolding arcs-of zip_with
+unfolding arcs_of zip_with
 fine = record {
   paired = refl;
   accepted = record {
-    zones-least = omega arith;
-    zones-most = omega arith;
-    arcs-most = omega arith;
+    zones_least = omega arith;
+    zones_most = omega arith;
+    arcs_most = omega arith;
     tails = λ m. elim (Memᴰ.cases_cons m) [
       | inl e ↦ omega (arith, ap (λ (f : Arc). f.tail) e)
       | inr k ↦ elim k [ ]

@@ -6,18 +6,18 @@ use Rattle.std.specs.Prelude.{◌≡◌, ℕ, ◌≤◌, ◌<◌, length, get_or
 use mathlib.Core.List.{List, Memᴰ as In}
 use Rattle.rules.specs.Network.{Network, Reach}
 use Rattle.rules.specs.Components.{name, names}
-use Rattle.rules.specs.Calls.{arcs-of}
+use Rattle.rules.specs.Calls.{arcs_of}
 use Rattle.workmap.specs.declared.Map.{Map}
 use Rattle.memory.specs.Regions.{cell}
-use Rattle.arranged.specs.Arranged.{Arranged-at}
+use Rattle.arranged.specs.Arranged.{ArrangedAt}
 use Rattle.arranged.specs.Ready.{Readyable}
 
 -- the network passes its tests, its arcs are arranged in w, as they are and turned round, and what stands between the
 -- tops and the rows' starts is clear
 pub record Lent (w : List ℕ) (m : Map) (ts hs : List ℕ) : Type 0 where
   pub ready : Readyable m ts hs w
-  pub rows : Arranged-at w m.rows (arcs-of ts hs)
-  pub turned : Arranged-at w m.turned (arcs-of hs ts)
+  pub rows : ArrangedAt w m.rows (arcs_of ts hs)
+  pub turned : ArrangedAt w m.turned (arcs_of hs ts)
   pub clear : (i : ℕ) → m.names.tops ≤ i → i < m.rows.starts → get_or w i 0 ≡ 0
 
 -- every zone's name stands in w', and the k names of all components, each once and in topological order: no name

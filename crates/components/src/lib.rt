@@ -3,8 +3,8 @@
 // the second, which goes against the arcs from the last zone that ended on; `naming` finds each component's lowest
 // zone, and lists these zones.
 ghost use Rattle.std.specs.Prelude.{List, ℕ};
-ghost use Rattle.rules.specs.Network.{network-of};
-ghost use Rattle.rules.specs.Calls.{arcs-of};
+ghost use Rattle.rules.specs.Network.{network_of};
+ghost use Rattle.rules.specs.Calls.{arcs_of};
 ghost use Rattle.components.specs.Components.{Lent, Components};
 
 use workmap::{Map, SearchAt};
@@ -14,7 +14,7 @@ use workmap::{Map, SearchAt};
 pub fn name_all(work: &mut [u16], m: Map) -> usize
     requires { (ts : List ℕ) × ((hs : List ℕ) × Lent work.old m ts hs) }
     ensures { (ts hs : List ℕ) → Lent work.old m ts hs
-        → Components work.old work.new m (network-of m.zones (arcs-of ts hs)) result }
+        → Components work.old work.new m (network_of m.zones (arcs_of ts hs)) result }
 {
     let to = m.names;
     let at = SearchAt {

@@ -5,9 +5,9 @@
 use Rattle.std.specs.Prelude.{◌≡◌, List, false, ℕ, ◌+◌, ◌≤◌, length, drop}
 use Rattle.rules.specs.Network.{Network, strong}
 use Rattle.rules.specs.Components.{sources, sinks, alone}
-use Rattle.rules.specs.Plan.{ordering, upright-plan}
+use Rattle.rules.specs.Plan.{ordering, upright_plan}
 use Rattle.workmap.specs.declared.Side.{Side}
-use Rattle.sides.specs.Standing.{Side-stands, Columns}
+use Rattle.sides.specs.Standing.{SideStands, Columns}
 use Rattle.sides.specs.Sides.{Roomy}
 use Rattle.connect.specs.declared.Connection.{Connection}
 
@@ -15,18 +15,18 @@ use Rattle.connect.specs.declared.Connection.{Connection}
 pub record Connectable (w : List ℕ) (d : Side) (s t q : ℕ) (N : Network) : Type 0 where
   pub small : d.rows.zones ≤ 1024
   pub roomy : Roomy d
-  pub stands : Side-stands w d.rows d.lists N
+  pub stands : SideStands w d.rows d.lists N
   pub weak : strong N ≡ false
   pub order : s ≤ t
-  pub sources-are : s ≡ length (sources N)
-  pub sinks-are : t ≡ length (sinks N)
-  pub alone-are : q ≡ length (alone N)
+  pub sources_are : s ≡ length (sources N)
+  pub sinks_are : t ≡ length (sinks N)
+  pub alone_are : q ≡ length (alone N)
 
 -- the links of the rule for s ≤ t are put, and r counts the pairs and the links; behind the whys the memory is as it
 -- was
 pub record Connected (w w' : List ℕ) (d : Side) (N : Network) (r : Connection) : Type 0 where
   pub pairs : r.pairs ≡ length (ordering N).pairs
-  pub need : r.need ≡ length (upright-plan N)
-  pub columns : Columns w' d.links (upright-plan N)
+  pub need : r.need ≡ length (upright_plan N)
+  pub columns : Columns w' d.links (upright_plan N)
   pub long : length w' ≡ length w
   pub back : drop (d.links.why + d.rows.zones) w' ≡ drop (d.links.why + d.rows.zones) w

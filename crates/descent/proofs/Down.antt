@@ -1,7 +1,7 @@
 -- One turn of `descend` in the memory: the top of the stack and its row, and the three stores of a turn.
 --   z, wa, wb     the top's zone, its next place and its row's end, as they are read; places count from `rows` on
 --   i, h          the step found the zone h at place i behind the next place
---   turn-state    after the stores the memory is that of the search with h on its stack
+--   turn_state    after the stores the memory is that of the search with h on its stack
 -- The three stores are a next place, a mark and a place of the order; the regions are told apart by their order in the
 -- memory. Assumes nothing.
 use mathlib.Core.Path.{◌≡◌, sym, ap, ◌∙◌}
@@ -13,51 +13,51 @@ use lib.ListN.{length, get_or, set, take, drop, length-set}
 use lib.Seq.{get_or-set_same, get_or-set_other, get_or-drop, drop-set-lt, take-set-le}
 use Rattle.workmap.specs.declared.RowsAt.{RowsAt}
 use Rattle.workmap.specs.declared.OrderAt.{OrderAt}
-use Rattle.arranged.specs.Marks.{zeros, Marked, First-in}
+use Rattle.arranged.specs.Marks.{zeros, Marked, FirstIn}
 use Rattle.arranged.specs.declared.Found.TheVariants.{At, Nothing}
-use Rattle.arranged.proofs.Zeros.{zeros-other, zeros-mark}
+use Rattle.arranged.proofs.Zeros.{zeros_other, zeros_mark}
 use Rattle.memory.specs.Regions.{cell}
-use Rattle.descent.specs.Memory.{Ready, State, Order-kept, Full}
+use Rattle.descent.specs.Memory.{Ready, State, OrderKept, Full}
 use Rattle.memory.proofs.Places.{behind}
 use Rattle.descent.proofs.Push.{deeper}
 
 -- a list after three stores
 module _ (w : List ℕ) {w' : List ℕ} (p q r x y u : ℕ) (made : w' ≡ set (set (set w p x) q y) r u) where
   -- Its length is the same.
-  three-length : length w' ≡ length w
-  three-length = rw made (simp length-set)
+  three_length : length w' ≡ length w
+  three_length = rw made (simp length-set)
 
   -- Elsewhere it has what it had.
-  three-other : (j : ℕ) → j ≢ p → j ≢ q → j ≢ r → get_or w' j 0 ≡ get_or w j 0
-  three-other j a b c = rw made (
+  three_other : (j : ℕ) → j ≢ p → j ≢ q → j ≢ r → get_or w' j 0 ≡ get_or w j 0
+  three_other j a b c = rw made (
       get_or-set_other (set (set w p x) q y) r j u 0 c
       ∙ get_or-set_other (set w p x) q j y 0 b
       ∙ get_or-set_other w p j x 0 a)
 
   -- It has what was stored last.
-  three-last : r < length w → get_or w' r 0 ≡ u
-  three-last h = rw made (get_or-set_same (set (set w p x) q y) r u 0 (simp length-set h))
+  three_last : r < length w → get_or w' r 0 ≡ u
+  three_last h = rw made (get_or-set_same (set (set w p x) q y) r u 0 (simp length-set h))
 
   -- It has what was stored second, where the third store went elsewhere.
-  three-mid : q < length w → q ≢ r → get_or w' q 0 ≡ y
-  three-mid h c = rw made (
+  three_mid : q < length w → q ≢ r → get_or w' q 0 ≡ y
+  three_mid h c = rw made (
       get_or-set_other (set (set w p x) q y) r q u 0 c ∙ get_or-set_same (set w p x) q y 0 (simp length-set h))
 
   -- It has what was stored first, where the later stores went elsewhere.
-  three-first : p < length w → p ≢ q → p ≢ r → get_or w' p 0 ≡ x
-  three-first h b c = rw made (
+  three_first : p < length w → p ≢ q → p ≢ r → get_or w' p 0 ≡ x
+  three_first h b c = rw made (
       get_or-set_other (set (set w p x) q y) r p u 0 c
       ∙ get_or-set_other (set w p x) q p y 0 b
       ∙ get_or-set_same w p x 0 h)
 
   -- Behind the stores it is the same.
-  three-drop : (n : ℕ) → p < n → q < n → r < n → drop n w' ≡ drop n w
-  three-drop n a b c = rw made (
+  three_drop : (n : ℕ) → p < n → q < n → r < n → drop n w' ≡ drop n w
+  three_drop n a b c = rw made (
       drop-set-lt n (set (set w p x) q y) r u c ∙ drop-set-lt n (set w p x) q y b ∙ drop-set-lt n w p x a)
 
   -- Before the stores it is the same.
-  three-take : (n : ℕ) → n ≤ p → n ≤ q → n ≤ r → take n w' ≡ take n w
-  three-take n a b c = rw made (
+  three_take : (n : ℕ) → n ≤ p → n ≤ q → n ≤ r → take n w' ≡ take n w
+  three_take n a b c = rw made (
       take-set-le n (set (set w p x) q y) r u c ∙ take-set-le n (set w p x) q y b ∙ take-set-le n w p x a)
 
 -- the stack has a top, and its zone z, its next place wa and its row's end wb were read
@@ -65,51 +65,51 @@ module _ {w : List ℕ} {R : RowsAt} {O : OrderAt} {lo hi : ℕ} (P : Ready w R 
     (S : State w R O lo hi) (top : hi < R.zones) {z wa wb : ℕ}
     (ez : z ≡ cell w O.order hi) (ea : wa ≡ cell w O.next z) (eb : wb ≡ get_or w (R.starts + z + 1) 0) where
   -- The top is a zone.
-  pub z-zone : z < R.zones
-  z-zone = rw ez (S.deep.zone hi (inr (omega arith, top)))
+  pub z_zone : z < R.zones
+  z_zone = rw ez (S.deep.zone hi (inr (omega arith, top)))
 
   -- Its row ends at wb.
   stop_is : get_or (drop R.starts w) (z + 1) 0 ≡ wb
   stop_is = get_or-drop R.starts w (z + 1) 0 ∙ ap (λ (n : ℕ). get_or w n 0) (omega arith) ∙ sym eb
 
   -- Its next place is not before its row's start.
-  start-le : get_or (drop R.starts w) z 0 ≤ wa
-  start-le = omega (arith, S.deep.from z z-zone, ea)
+  start_le : get_or (drop R.starts w) z 0 ≤ wa
+  start_le = omega (arith, S.deep.from z z_zone, ea)
 
   -- Its next place is not behind its row's end.
-  pub a-le : wa ≤ wb
-  a-le = omega (arith, S.deep.upto z z-zone, ea, stop_is)
+  pub a_le : wa ≤ wb
+  a_le = omega (arith, S.deep.upto z z_zone, ea, stop_is)
 
   -- Its row lies in the memory.
-  pub b-fits : R.rows + wb ≤ length w
-  b-fits = rw stop_is at (P.fits z z-zone)
+  pub b_fits : R.rows + wb ≤ length w
+  b_fits = rw stop_is at (P.fits z z_zone)
 
   -- Its row's end is a small number.
-  pub b-few : wb ≤ 4096
-  b-few = rw stop_is at (P.few z z-zone)
+  pub b_few : wb ≤ 4096
+  b_few = rw stop_is at (P.few z z_zone)
 
   -- An element of the rows, read from the part behind the starts.
   row_at : (i : ℕ) → R.rows ≤ i → get_or (drop R.starts w) (i - R.starts) 0 ≡ get_or w i 0
-  row_at i l = behind w R.starts i (omega (arith, P.starts-before))
+  row_at i l = behind w R.starts i (omega (arith, P.starts_before))
 
   -- Its heads are zones.
-  pub z-heads : (i : ℕ) → R.rows + wa ≤ i → i < R.rows + wb → get_or w i 0 < R.zones
-  z-heads i l h = rw (row_at i (omega arith)) at
-      (P.sound.heads z i z-zone (omega (arith, start-le)) (omega (arith, stop_is)))
+  pub z_heads : (i : ℕ) → R.rows + wa ≤ i → i < R.rows + wb → get_or w i 0 < R.zones
+  z_heads i l h = rw (row_at i (omega arith)) at
+      (P.sound.heads z i z_zone (omega (arith, start_le)) (omega (arith, stop_is)))
 
   -- Where the step finds nothing, all heads of the top have marks.
-  pub z-full : First-in w (R.rows + wa) (R.rows + wb) O.seen Nothing → Full w R O hi
-  z-full F i = rw (sym ez, sym ea, stop_is) (λ l h. rw (row_at i (omega arith)) (F i l h))
+  pub z_full : FirstIn w (R.rows + wa) (R.rows + wb) O.seen Nothing → Full w R O hi
+  z_full F i = rw (sym ez, sym ea, stop_is) (λ l h. rw (row_at i (omega arith)) (F i l h))
 
   -- the step found h at place i, and the three stores are done
   module _ (i : ℕ) {h : ℕ} {w' : List ℕ} (eh : h ≡ get_or w (R.rows + wa + i) 0)
-      (F : First-in w (R.rows + wa) (R.rows + wb) O.seen (At i))
+      (F : FirstIn w (R.rows + wa) (R.rows + wb) O.seen (At i))
       (made : w' ≡ set
       (set (set w (O.next + z) (R.rows + wa + i + 1 - R.rows)) (O.seen + h) (lo + (R.zones - hi) + 1))
       (O.order + (hi - 1)) h) where
     -- h is a zone.
-    pub h-zone : h < R.zones
-    h-zone = rw eh (z-heads (R.rows + wa + i) (omega arith) F.0)
+    pub h_zone : h < R.zones
+    h_zone = rw eh (z_heads (R.rows + wa + i) (omega arith) F.0)
 
     -- h has no mark.
     free : get_or w (O.seen + h) 0 ≡ 0
@@ -118,78 +118,78 @@ module _ {w : List ℕ} {R : RowsAt} {O : OrderAt} {lo hi : ℕ} (P : Ready w R 
     -- The regions lie one behind the other.
     lay : (O.seen + R.zones ≤ O.next)
         × ((O.next + R.zones ≤ O.order) × ((O.order + R.zones ≤ R.starts) × (R.starts ≤ length w)))
-    lay = (P.apart, (P.before, (P.order-before, omega (arith, P.starts-before, P.inside))))
+    lay = (P.apart, (P.before, (P.order_before, omega (arith, P.starts_before, P.inside))))
 
     -- After the first two stores one mark more is set.
-    fewer-two : suc
+    fewer_two : suc
         (zeros (set (set w (O.next + z) (R.rows + wa + i + 1 - R.rows)) (O.seen + h) (lo + (R.zones - hi) + 1))
         O.seen R.zones) ≡ zeros w O.seen R.zones
-    fewer-two =
-        zeros-mark (set w (O.next + z) (R.rows + wa + i + 1 - R.rows)) O.seen R.zones h
+    fewer_two =
+        zeros_mark (set w (O.next + z) (R.rows + wa + i + 1 - R.rows)) O.seen R.zones h
         (lo + (R.zones - hi) + 1)
-        (λ e. omega arith) h-zone (simp length-set (omega (arith, lay)))
+        (λ e. omega arith) h_zone (simp length-set (omega (arith, lay)))
         (get_or-set_other w (O.next + z) (O.seen + h) (R.rows + wa + i + 1 - R.rows) 0
-        (λ e. omega (arith, h-zone, lay)) ∙ free)
-        ∙ zeros-other w (O.next + z) (R.rows + wa + i + 1 - R.rows) O.seen R.zones (inr (omega (arith, lay)))
+        (λ e. omega (arith, h_zone, lay)) ∙ free)
+        ∙ zeros_other w (O.next + z) (R.rows + wa + i + 1 - R.rows) O.seen R.zones (inr (omega (arith, lay)))
 
     -- After the third, still.
     fewer : suc (zeros w' O.seen R.zones) ≡ zeros w O.seen R.zones
     fewer = rw made (
-        ap suc (zeros-other _ (O.order + (hi - 1)) h O.seen R.zones (inr (omega (arith, lay)))) ∙ fewer-two)
+        ap suc (zeros_other _ (O.order + (hi - 1)) h O.seen R.zones (inr (omega (arith, lay)))) ∙ fewer_two)
 
     -- There is room for one more on the stack.
     pub room : lo < hi
-    room = omega (arith, fewer-two, S.room)
+    room = omega (arith, fewer_two, S.room)
 
     -- Elsewhere the memory has what it had.
     other : (j : ℕ) → j ≢ O.next + z → j ≢ O.seen + h → j ≢ O.order + (hi - 1) → get_or w' j 0 ≡ get_or w j 0
-    other = three-other w (O.next + z) (O.seen + h) (O.order + (hi - 1)) _ _ _ made
+    other = three_other w (O.next + z) (O.seen + h) (O.order + (hi - 1)) _ _ _ made
 
     -- The new mark says when h was seen.
     mark : cell w' O.seen h ≡ lo + (R.zones - hi) + 1
-    mark = three-mid w (O.next + z) (O.seen + h) (O.order + (hi - 1)) _ _ _ made
-        (omega (arith, lay, h-zone)) (λ e. omega (arith, lay, h-zone))
+    mark = three_mid w (O.next + z) (O.seen + h) (O.order + (hi - 1)) _ _ _ made
+        (omega (arith, lay, h_zone)) (λ e. omega (arith, lay, h_zone))
 
     -- The other marks are kept.
-    mark-other : (v : ℕ) → v < R.zones → v ≢ h → cell w' O.seen v ≡ cell w O.seen v
-    mark-other v l ne = other (O.seen + v) (λ e. omega (arith, lay)) (λ e. ne (omega arith)) (λ e. omega (arith, lay))
+    mark_other : (v : ℕ) → v < R.zones → v ≢ h → cell w' O.seen v ≡ cell w O.seen v
+    mark_other v l ne = other (O.seen + v) (λ e. omega (arith, lay)) (λ e. ne (omega arith)) (λ e. omega (arith, lay))
 
     -- h is on the stack.
     put : cell w' O.order (hi - 1) ≡ h
-    put = three-last w (O.next + z) (O.seen + h) (O.order + (hi - 1)) _ _ _ made (omega (arith, lay))
+    put = three_last w (O.next + z) (O.seen + h) (O.order + (hi - 1)) _ _ _ made (omega (arith, lay))
 
     -- The other places of the order are kept.
     put_other : (j : ℕ) → j < R.zones → j ≢ hi - 1 → cell w' O.order j ≡ cell w O.order j
     put_other j l ne = other (O.order + j)
-        (λ e. omega (arith, lay, z-zone)) (λ e. omega (arith, lay, h-zone)) (λ e. ne (omega arith))
+        (λ e. omega (arith, lay, z_zone)) (λ e. omega (arith, lay, h_zone)) (λ e. ne (omega arith))
 
     -- The top's next place has moved on behind h.
     moved : R.rows + cell w' O.next (cell w O.order hi) ≡ R.rows + wa + i + 1
     moved = rw (
       sym ez,
-      three-first w (O.next + z) (O.seen + h) (O.order + (hi - 1)) _ _ _ made
-          (omega (arith, lay, z-zone)) (λ e. omega (arith, lay, h-zone)) (λ e. omega (arith, lay, z-zone)),
+      three_first w (O.next + z) (O.seen + h) (O.order + (hi - 1)) _ _ _ made
+          (omega (arith, lay, z_zone)) (λ e. omega (arith, lay, h_zone)) (λ e. omega (arith, lay, z_zone)),
     ) (omega arith)
 
     -- The other next places are kept.
     moved_other : (v : ℕ) → v < R.zones → v ≢ cell w O.order hi
         → R.rows + cell w' O.next v ≡ R.rows + cell w O.next v
     moved_other v l ne = ap (λ (n : ℕ). R.rows + n) (other (O.next + v)
-        (λ e. ne (omega (arith, ez))) (λ e. omega (arith, lay, h-zone)) (λ e. omega (arith, lay)))
+        (λ e. ne (omega (arith, ez))) (λ e. omega (arith, lay, h_zone)) (λ e. omega (arith, lay)))
 
     -- The rows are kept.
     back : drop R.starts w' ≡ drop R.starts w
-    back = three-drop w (O.next + z) (O.seen + h) (O.order + (hi - 1)) _ _ _ made R.starts
-        (omega (arith, lay, z-zone)) (omega (arith, lay, h-zone)) (omega (arith, lay))
+    back = three_drop w (O.next + z) (O.seen + h) (O.order + (hi - 1)) _ _ _ made R.starts
+        (omega (arith, lay, z_zone)) (omega (arith, lay, h_zone)) (omega (arith, lay))
 
     -- A turn keeps what the first pass keeps.
-    pub turn-kept : Order-kept w w' R O
-    turn-kept = record {
-      long = three-length w (O.next + z) (O.seen + h) (O.order + (hi - 1)) _ _ _ made;
-      front = three-take w (O.next + z) (O.seen + h) (O.order + (hi - 1)) _ _ _ made O.seen
+    pub turn_kept : OrderKept w w' R O
+    turn_kept = record {
+      long = three_length w (O.next + z) (O.seen + h) (O.order + (hi - 1)) _ _ _ made;
+      front = three_take w (O.next + z) (O.seen + h) (O.order + (hi - 1)) _ _ _ made O.seen
           (omega (arith, lay)) (omega arith) (omega (arith, lay));
       back = back;
-      more = λ v l m e. m (sym (mark-other v l (λ q. m (ap (cell w O.seen) q ∙ free))) ∙ e);
+      more = λ v l m e. m (sym (mark_other v l (λ q. m (ap (cell w O.seen) q ∙ free))) ∙ e);
     }
 
     -- The found place is not before the top's next place.
@@ -210,12 +210,12 @@ module _ {w : List ℕ} {R : RowsAt} {O : OrderAt} {lo hi : ℕ} (P : Ready w R 
     prior k = rw (sym ez, sym ea) (λ l m. rw (row_at k (omega arith)) (F.1.1 k l m))
 
     -- A turn leaves the memory of the search with h on its stack.
-    pub turn-state : State w' R O lo (hi - 1)
-    turn-state = record {
+    pub turn_state : State w' R O lo (hi - 1)
+    turn_state = record {
       end = omega arith;
       room = omega (arith, fewer, S.room);
       deep = rw back (deeper P.sound (cell w O.seen) (cell w' O.seen) (cell w O.order) (cell w' O.order)
           (λ v. R.rows + cell w O.next v) (λ v. R.rows + cell w' O.next v) S.deep
           (omega (arith, room)) (omega (arith, room))
-          top low high is prior free mark mark-other put put_other moved moved_other);
+          top low high is prior free mark mark_other put put_other moved moved_other);
     }

@@ -13,7 +13,7 @@ abbrev pub Live : ℕ → ℕ → ℕ → ℕ → Type 0
 Live lo hi zones i = (i < lo) ⊎ ((hi ≤ i) × (i < zones))
 
 -- v has ended or is on the stack
-pub record Seen-listed (order : ℕ → ℕ) (lo hi zones v : ℕ) : Type 0 where
+pub record SeenListed (order : ℕ → ℕ) (lo hi zones v : ℕ) : Type 0 where
   pub at : ℕ
   pub live : Live lo hi zones at
   pub is : order at ≡ v
@@ -24,7 +24,7 @@ pub record Deep (G : Rows) (d order next : ℕ → ℕ) (lo hi : ℕ) : Type 0 w
   pub zone : (i : ℕ) → Live lo hi G.zones i → order i < G.zones
   pub seen : (i : ℕ) → Live lo hi G.zones i → d (order i) ≡ 0 → ⊥
   pub early : (v : ℕ) → v < G.zones → d v ≤ lo + (G.zones - hi)
-  pub listed : (v : ℕ) → v < G.zones → (d v ≡ 0 → ⊥) → Seen-listed order lo hi G.zones v
+  pub listed : (v : ℕ) → v < G.zones → (d v ≡ 0 → ⊥) → SeenListed order lo hi G.zones v
   pub pairs : (i j : ℕ) → i < j → j < lo → Pair (Entry G) d (order i) (order j)
   pub over : (i j : ℕ) → i < lo → hi ≤ j → j < G.zones → Pair (Entry G) d (order i) (order j)
   pub chain : (i j : ℕ) → hi ≤ i → i ≤ j → j < G.zones

@@ -10,7 +10,7 @@ use Rattle.workmap.specs.declared.OrderAt.{OrderAt}
 use Rattle.arranged.specs.Rows.{Sound, Entry, rows_of}
 use Rattle.arranged.specs.Marks.{zeros, Marked}
 use Rattle.memory.specs.Regions.{cell}
-use Rattle.descent.specs.Order.{Ended-ordered, In-order}
+use Rattle.descent.specs.Order.{EndedOrdered, InOrder}
 use Rattle.descent.specs.Deep.{Deep}
 
 -- the regions lie one behind the other, inside the memory, and the rows are sound
@@ -18,8 +18,8 @@ pub record Ready (w : List ℕ) (R : RowsAt) (O : OrderAt) : Type 0 where
   pub small : R.zones ≤ 1024
   pub apart : O.seen + R.zones ≤ O.next
   pub before : O.next + R.zones ≤ O.order
-  pub order-before : O.order + R.zones ≤ R.starts
-  pub starts-before : R.starts + R.zones < R.rows
+  pub order_before : O.order + R.zones ≤ R.starts
+  pub starts_before : R.starts + R.zones < R.rows
   pub inside : R.rows ≤ length w
   pub few : (z : ℕ) → z < R.zones → get_or (drop R.starts w) (z + 1) 0 ≤ 4096
   pub fits : (z : ℕ) → z < R.zones → R.rows + get_or (drop R.starts w) (z + 1) 0 ≤ length w
@@ -33,7 +33,7 @@ pub record State (w : List ℕ) (R : RowsAt) (O : OrderAt) (lo hi : ℕ) : Type 
       Deep (rows_of w R) (cell w O.seen) (cell w O.order) (λ z. R.rows + cell w O.next z) lo hi
 
 -- only marks, next places and the order may differ, and no mark is cleared
-pub record Order-kept (w w' : List ℕ) (R : RowsAt) (O : OrderAt) : Type 0 where
+pub record OrderKept (w w' : List ℕ) (R : RowsAt) (O : OrderAt) : Type 0 where
   pub long : length w' ≡ length w
   pub front : take O.seen w' ≡ take O.seen w
   pub back : drop R.starts w' ≡ drop R.starts w
@@ -49,18 +49,18 @@ Full w R O r =
 
 -- after going down: the stack's top is at r
 pub record Went (w w' : List ℕ) (R : RowsAt) (O : OrderAt) (lo r : ℕ) : Type 0 where
-  pub kept : Order-kept w w' R O
+  pub kept : OrderKept w w' R O
   pub state : State w' R O lo r
   pub top : r < R.zones
 
 -- after the search from r: r is seen, and the stack is empty
 pub record Begun (w w' : List ℕ) (R : RowsAt) (O : OrderAt) (lo r : ℕ) : Type 0 where
-  pub kept : Order-kept w w' R O
+  pub kept : OrderKept w w' R O
   pub state : State w' R O lo R.zones
   pub first : Marked w' O.seen r
 
 -- the finishing order is whole and has its property
 pub record Finished (w : List ℕ) (R : RowsAt) (O : OrderAt) : Type 0 where
   pub zone : (i : ℕ) → i < R.zones → cell w O.order i < R.zones
-  pub ordered : Ended-ordered (Entry (rows_of w R)) (cell w O.seen) (cell w O.order) R.zones
-  pub stands : (v : ℕ) → v < R.zones → In-order (cell w O.order) R.zones v
+  pub ordered : EndedOrdered (Entry (rows_of w R)) (cell w O.seen) (cell w O.order) R.zones
+  pub stands : (v : ℕ) → v < R.zones → InOrder (cell w O.order) R.zones v

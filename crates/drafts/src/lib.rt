@@ -1,7 +1,7 @@
 // A plan for records, as a draft: it stands in the work memory, in columns, and is handed out from there. The tests
 // and the laying come first; once the records are stored, the work memory is cleared.
 ghost use Rattle.std.specs.Prelude.{◌≡◌};
-ghost use Rattle.drafts.specs.Drafts.{need-of, Finishable, finished, Drafted};
+ghost use Rattle.drafts.specs.Drafts.{need_of, Finishable, finished, Drafted};
 
 use figures::answer_of;
 use laying::lay;
@@ -32,7 +32,7 @@ pub fn draft(
 
 // How many links the answer carries: none where it refuses.
 pub fn need_of(answer: PlanAnswer) -> usize
-    ensures { result ≡ need-of answer }
+    ensures { result ≡ need_of answer }
 {
     match answer {
         PlanAnswer::Done {

@@ -1,6 +1,6 @@
 -- An order of names, and the rows over it, told by another function that agrees with it at every place.
---   ordered-agree    the order is one by either
---   row-agree        a row of places is one by either
+--   ordered_agree    the order is one by either
+--   row_agree        a row of places is one by either
 -- Both speak of the places below m only. Assumes nothing.
 use mathlib.Core.Path.{◌≡◌, ◌∙◌}
 use mathlib.Core.List.{List}
@@ -12,8 +12,8 @@ use Rattle.theory.proofs.Skeletons.TablePlaces.{Row}
 
 module _ {N : Network} (top top' : ℕ → ℕ) (m : ℕ) (same : (j : ℕ) → j < m → top' j ≡ top j) where
   -- the order is one by either
-  pub ordered-agree : Ordered N top m → Ordered N top' m
-  ordered-agree O =
+  pub ordered_agree : Ordered N top m → Ordered N top' m
+  ordered_agree O =
       record {
         own = λ j h. rw (same j h) (O.own j h);
         all = λ c i e. let r = O.all c i e in (r.0, r.1, same r.0 r.1 ∙ r.2);
@@ -21,8 +21,8 @@ module _ {N : Network} (top top' : ℕ → ℕ) (m : ℕ) (same : (j : ℕ) → 
       }
 
   -- a row of places is one by either
-  pub row-agree : (j : ℕ) (ks : List ℕ) → j < m → Row N top m j ks → Row N top' m j ks
-  row-agree j ks h R =
+  pub row_agree : (j : ℕ) (ks : List ℕ) → j < m → Row N top m j ks → Row N top' m j ks
+  row_agree j ks h R =
       record {
         low = R.low;
         sound = λ k i. rw (same j h, same k (R.low k i)) (R.sound k i);

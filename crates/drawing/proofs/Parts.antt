@@ -1,6 +1,6 @@
 -- The arcs of the rings and those between components, put one behind the other.
---   named-kept       what keeps everything from the components' names on keeps the names
---   rings-asked      the rings' arcs can be put, and have room
+--   named_kept       what keeps everything from the components' names on keeps the names
+--   rings_asked      the rings' arcs can be put, and have room
 --   cross-asked      behind them the arcs between components have room
 --   drawn            both together are the skeleton's arcs
 -- Assumes nothing.
@@ -11,45 +11,45 @@ use native.Mathlib.Omega.{arith}
 use lib.ListN.{length, drop, length-append}
 use Rattle.rules.specs.Lists.{span}
 use Rattle.rules.specs.Network.{Arc, ◌⟶◌}
-use Rattle.rules.specs.Calls.{handed, asked-work}
-use Rattle.theory.proofs.Ground.ArcLists.{arcs-length}
-use Rattle.workmap.specs.Map.{names_at, rings-at, table_at}
+use Rattle.rules.specs.Calls.{handed, asked_work}
+use Rattle.theory.proofs.Ground.ArcLists.{arcs_length}
+use Rattle.workmap.specs.Map.{names_at, rings_at, table_at}
 use Rattle.memory.specs.Regions.{cell}
-use Rattle.memory.specs.Putting.{Arcs-fit}
-use Rattle.memory.proofs.Regions.{at-kept}
-use Rattle.memory.proofs.Places.{drop-deeper}
-use Rattle.memory.proofs.Puts.{put_then, put-long}
-use Rattle.rings.specs.Rings.{rings-of, Rings-lent, Rings-put}
-use Rattle.rings.proofs.Following.{rings-in, rings-ends, in-rings, rings-once, rings-short}
-use Rattle.sorting.proofs.Parts.{Skeleton-parts, whole_twice, whole-short, whole-between}
-use Rattle.blocks.specs.Sweeps.{crossing-arcs}
-use Rattle.blocks.specs.Contract.{Crossings-put}
+use Rattle.memory.specs.Putting.{ArcsFit}
+use Rattle.memory.proofs.Regions.{at_kept}
+use Rattle.memory.proofs.Places.{drop_deeper}
+use Rattle.memory.proofs.Puts.{put_then, put_long}
+use Rattle.rings.specs.Rings.{rings_of, RingsLent, RingsPut}
+use Rattle.rings.proofs.Following.{rings_in, rings_ends, in_rings, rings_once, rings_short}
+use Rattle.sorting.proofs.Parts.{SkeletonParts, whole_twice, whole_short, whole_between}
+use Rattle.blocks.specs.Sweeps.{crossing_arcs}
+use Rattle.blocks.specs.Contract.{CrossingsPut}
 use Rattle.blocks.specs.Crossings.{Crossings}
-use Rattle.blocks.proofs.Crossing.{crossings-right}
+use Rattle.blocks.proofs.Crossing.{crossings_right}
 use Rattle.drawing.specs.Drawing.{Named, Tabled, Drawn}
-use Rattle.drawing.proofs.Orders.{ordered-agree}
-use Rattle.drawing.proofs.Tables.{name-low, named-proper}
+use Rattle.drawing.proofs.Orders.{ordered_agree}
+use Rattle.drawing.proofs.Tables.{name_low, named_proper}
 
 -- what keeps everything from the components' names on keeps the names
-pub named-kept : (w w' : List ℕ) (n : ℕ) (ts hs : List ℕ) (k : ℕ) → length w' ≡ length w →
+pub named_kept : (w w' : List ℕ) (n : ℕ) (ts hs : List ℕ) (k : ℕ) → length w' ≡ length w →
     drop (names_at n).tops w' ≡ drop (names_at n).tops w → Named w n ts hs k → Named w' n ts hs k
-named-kept w w' n ts hs k long same N =
+named_kept w w' n ts hs k long same N =
     record {
       fine = N.fine;
       room = omega (arith, N.room);
       few = N.few;
-      named = λ v h. at-kept w w' (names_at n).tops ((names_at n).names + v) (omega arith) same ∙ N.named v h;
+      named = λ v h. at_kept w w' (names_at n).tops ((names_at n).names + v) (omega arith) same ∙ N.named v h;
       ordered =
-          ordered-agree (cell w (names_at n).tops) (cell w' (names_at n).tops) k
-          (λ j h. at-kept w w' (names_at n).tops ((names_at n).tops + j) (omega arith) same) N.ordered;
+          ordered_agree (cell w (names_at n).tops) (cell w' (names_at n).tops) k
+          (λ j h. at_kept w w' (names_at n).tops ((names_at n).tops + j) (omega arith) same) N.ordered;
     }
 
 module _ (w : List ℕ) (n : ℕ) (ts hs : List ℕ) (k : ℕ) (N : Named w n ts hs k) (ots ohs : List ℕ)
-    (tails-room : length ts ≤ length ots) (heads-room : length ts ≤ length ohs) where
+    (tails_room : length ts ≤ length ots) (heads_room : length ts ≤ length ohs) where
   -- the network has as many arcs as tails
   many : length (handed n ts hs).arcs ≡ length ts
   unfolding handed
-  many = arcs-length ts hs N.fine.paired
+  many = arcs_length ts hs N.fine.paired
 
   -- its zones
   zones : (handed n ts hs).zones ≡ span 0 n
@@ -57,86 +57,86 @@ module _ (w : List ℕ) (n : ℕ) (ts hs : List ℕ) (k : ℕ) (N : Named w n ts
   zones = refl
 
   -- the rings' arcs
-  abbrev pub ring-arcs : List Arc
-  ring-arcs = rings-of (cell w (names_at n).names) (span 0 n)
+  abbrev pub ring_arcs : List Arc
+  ring_arcs = rings_of (cell w (names_at n).names) (span 0 n)
 
   -- they can be put
-  pub rings-asked : Rings-lent w (rings-at n)
-  rings-asked =
+  pub rings_asked : RingsLent w (rings_at n)
+  rings_asked =
       record {
-        small = N.fine.accepted.zones-most;
+        small = N.fine.accepted.zones_most;
         apart = omega arith;
         fits = omega (arith, N.room);
-        named = λ v h. name-low w n ts hs k N v h;
+        named = λ v h. name_low w n ts hs k N v h;
       }
 
   -- and have room
-  pub rings-fit : Arcs-fit ots ohs 0 ring-arcs
-  rings-fit =
-      let short = rings-short (named-proper w n ts hs k N) n zones (cell w (names_at n).names) N.named in
+  pub rings_fit : ArcsFit ots ohs 0 ring_arcs
+  rings_fit =
+      let short = rings_short (named_proper w n ts hs k N) n zones (cell w (names_at n).names) N.named in
       record { tails = omega (arith, short, many); heads = omega (arith, short, many) }
 
   -- w₁ is the memory once they are put, w₂ once the network of the components is laid out
-  module _ (w₁ ots₁ ohs₁ : List ℕ) (r₁ : ℕ) (P : Rings-put w w₁ (rings-at n) ots ohs ots₁ ohs₁ 0 r₁) where
+  module _ (w₁ ots₁ ohs₁ : List ℕ) (r₁ : ℕ) (P : RingsPut w w₁ (rings_at n) ots ohs ots₁ ohs₁ 0 r₁) where
     -- the names are still there
-    pub named-then : Named w₁ n ts hs k
-    named-then =
-        named-kept w w₁ n ts hs k P.long
-        (drop-deeper w w₁ ((rings-at n).last + n) (names_at n).tops (omega arith) P.high) N
+    pub named_then : Named w₁ n ts hs k
+    named_then =
+        named_kept w w₁ n ts hs k P.long
+        (drop_deeper w w₁ ((rings_at n).last + n) (names_at n).tops (omega arith) P.high) N
 
     module _ (w₂ : List ℕ) (T : Tabled w₁ w₂ n ts hs k) where
       -- the arcs between components
-      abbrev pub cross-arcs : List Arc
-      cross-arcs = crossing-arcs w₂ (table_at n) k
+      abbrev pub cross_arcs : List Arc
+      cross_arcs = crossing_arcs w₂ (table_at n) k
 
       -- they are those that cross
-      crossing : Crossings (handed n ts hs) cross-arcs
-      crossing = crossings-right T.condensed
+      crossing : Crossings (handed n ts hs) cross_arcs
+      crossing = crossings_right T.condensed
 
       -- both together are the skeleton's
-      parts : Skeleton-parts (handed n ts hs) ring-arcs cross-arcs
+      parts : SkeletonParts (handed n ts hs) ring_arcs cross_arcs
       parts =
-          let P = named-proper w n ts hs k N in
+          let P = named_proper w n ts hs k N in
           let f = cell w (names_at n).names in
           record {
-            ring-once = rings-once P n zones f N.named;
-            ring_in = rings-in P n zones f N.named;
-            in-ring = in-rings P n zones f N.named;
-            ring-ends = rings-ends P n zones f N.named;
-            cross-once = crossing.once;
-            cross-in = crossing.sound;
-            in-cross = λ a b i j h. crossing.complete (a ⟶ b) h;
-            cross-ends = crossing.ends;
+            ring_once = rings_once P n zones f N.named;
+            ring_in = rings_in P n zones f N.named;
+            in_ring = in_rings P n zones f N.named;
+            ring_ends = rings_ends P n zones f N.named;
+            cross_once = crossing.once;
+            cross_in = crossing.sound;
+            in_cross = λ a b i j h. crossing.complete (a ⟶ b) h;
+            cross_ends = crossing.ends;
           }
 
       -- they are no more than the network has
-      both-few : length (ring-arcs ++ cross-arcs) ≤ length ts
-      both-few = omega (arith, whole-short (named-proper w n ts hs k N) parts n zones, many)
+      both_few : length (ring_arcs ++ cross_arcs) ≤ length ts
+      both_few = omega (arith, whole_short (named_proper w n ts hs k N) parts n zones, many)
 
       -- behind the rings' arcs those between components have room
-      pub cross-fit : Arcs-fit ots₁ ohs₁ r₁ cross-arcs
-      cross-fit =
-          let long = put-long P.arcs in
-          let both = length-append ring-arcs cross-arcs in
+      pub cross_fit : ArcsFit ots₁ ohs₁ r₁ cross_arcs
+      cross_fit =
+          let long = put_long P.arcs in
+          let both = length-append ring_arcs cross_arcs in
           record {
-            tails = omega (arith, P.arcs.behind, both, both-few, long.0);
-            heads = omega (arith, P.arcs.behind, both, both-few, long.1);
+            tails = omega (arith, P.arcs.behind, both, both_few, long.0);
+            heads = omega (arith, P.arcs.behind, both, both_few, long.1);
           }
 
       -- w₃ is the memory once they are put: they are the skeleton's arcs
       pub drawn : (w₃ ots₂ ohs₂ : List ℕ) (r₂ : ℕ) →
-          Crossings-put w₂ w₃ (table_at n) k ots₁ ohs₁ ots₂ ohs₂ r₁ r₂ → Drawn w w₃ n ts hs ots ohs ots₂ ohs₂ r₂
+          CrossingsPut w₂ w₃ (table_at n) k ots₁ ohs₁ ots₂ ohs₂ r₁ r₂ → Drawn w w₃ n ts hs ots ohs ots₂ ohs₂ r₂
       drawn w₃ ots₂ ohs₂ r₂ Q =
-          let asked = asked-work n (length ts) in
+          let asked = asked_work n (length ts) in
           record {
-            arcs = ring-arcs ++ cross-arcs;
+            arcs = ring_arcs ++ cross_arcs;
             put = put_then P.arcs Q.put;
-            few = both-few;
-            between = whole-between (named-proper w n ts hs k N) parts n zones;
-            sorted = whole_twice (named-proper w n ts hs k N) parts n zones;
+            few = both_few;
+            between = whole_between (named_proper w n ts hs k N) parts n zones;
+            sorted = whole_twice (named_proper w n ts hs k N) parts n zones;
             long = Q.long ∙ T.long ∙ P.long;
             beyond =
-                drop-deeper w₂ w₃ (k * 8) asked (omega (arith, N.few)) Q.behind
+                drop_deeper w₂ w₃ (k * 8) asked (omega (arith, N.few)) Q.behind
                 ∙ T.beyond
-                ∙ drop-deeper w w₁ ((rings-at n).last + n) asked (omega arith) P.high;
+                ∙ drop_deeper w w₁ ((rings_at n).last + n) asked (omega arith) P.high;
           }

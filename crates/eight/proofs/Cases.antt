@@ -2,9 +2,9 @@
 use Prim.Native.Nat.{ℕ}
 use mathlib.Core.Path.{◌≡◌, sym, ap, ◌∙◌}
 use mathlib.Core.List.{List}
-use Rattle.rules.specs.Answers.{Told, answer-eight}
+use Rattle.rules.specs.Answers.{Told, answer_eight}
 
 -- the eight numbers of s are those of the answer r, which is s
-pub case : {A : Type 0} (told : A → Told) {r s : A} {eight : List ℕ} → r ≡ s → eight ≡ answer-eight (told s)
-    → eight ≡ answer-eight (told r)
-case told known e = e ∙ ap (λ t. answer-eight (told t)) (sym known)
+pub case : {A : Type 0} (told : A → Told) {r s : A} {eight : List ℕ} → r ≡ s → eight ≡ answer_eight (told s)
+    → eight ≡ answer_eight (told r)
+case told known e = e ∙ ap (λ t. answer_eight (told t)) (sym known)

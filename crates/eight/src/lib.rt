@@ -1,8 +1,8 @@
 // The eight numbers of the C interface: each call's answer is put into them, its number first, then its place, then its
 // values, and 0 in what is left.
 ghost use Rattle.std.specs.Prelude.{◌≡◌, [], ◌∷◌};
-ghost use Rattle.rules.specs.Answers.{yes-number, answer-eight, refused};
-ghost use Rattle.rules.specs.Answers.{read_told, write-told, strong-told, reach-told, skeleton-told, plan-told};
+ghost use Rattle.rules.specs.Answers.{yes_number, answer_eight, refused};
+ghost use Rattle.rules.specs.Answers.{read_told, write_told, strong_told, reach_told, skeleton_told, plan_told};
 
 use rules::{
     PlanAnswer, ReachAnswer, ReadAnswer, SkeletonAnswer, StrongAnswer, Trouble, WriteAnswer,
@@ -11,7 +11,7 @@ use rules::{
 
 // The number of a yes or a no.
 fn yes_number(yes: bool) -> usize
-    ensures { result ≡ yes-number yes }
+    ensures { result ≡ yes_number yes }
 {
     if yes { 1 } else { 0 }
 }
@@ -41,7 +41,7 @@ fn put_done(
 
 // Puts a refusal: its number, its place, and 0 in all values.
 fn put_refusal(answer: &mut [u64; 8], t: Trouble)
-    ensures { answer.new ≡ answer-eight (refused 0 t) }
+    ensures { answer.new ≡ answer_eight (refused 0 t) }
 {
     let kind = t.kind;
     let place = t.place;
@@ -51,7 +51,7 @@ fn put_refusal(answer: &mut [u64; 8], t: Trouble)
 
 // Puts an answer of READ.
 pub fn put_read(answer: &mut [u64; 8], a: ReadAnswer)
-    ensures { answer.new ≡ answer-eight (read_told a) }
+    ensures { answer.new ≡ answer_eight (read_told a) }
 {
     match a {
         ReadAnswer::Done { zones, arcs } => put_done(answer, zones, arcs, 0, 0, 0),
@@ -61,7 +61,7 @@ pub fn put_read(answer: &mut [u64; 8], a: ReadAnswer)
 
 // Puts an answer of WRITE.
 pub fn put_write(answer: &mut [u64; 8], a: WriteAnswer)
-    ensures { answer.new ≡ answer-eight (write-told a) }
+    ensures { answer.new ≡ answer_eight (write_told a) }
 {
     match a {
         WriteAnswer::Done { length } => put_done(answer, length, 0, 0, 0, 0),
@@ -71,7 +71,7 @@ pub fn put_write(answer: &mut [u64; 8], a: WriteAnswer)
 
 // Puts an answer of STRONG.
 pub fn put_strong(answer: &mut [u64; 8], a: StrongAnswer)
-    ensures { answer.new ≡ answer-eight (strong-told a) }
+    ensures { answer.new ≡ answer_eight (strong_told a) }
 {
     match a {
         StrongAnswer::Done { yes } => put_done(answer, yes_number(yes), 0, 0, 0, 0),
@@ -81,7 +81,7 @@ pub fn put_strong(answer: &mut [u64; 8], a: StrongAnswer)
 
 // Puts an answer of REACH.
 pub fn put_reach(answer: &mut [u64; 8], a: ReachAnswer)
-    ensures { answer.new ≡ answer-eight (reach-told a) }
+    ensures { answer.new ≡ answer_eight (reach_told a) }
 {
     match a {
         ReachAnswer::Done { yes } => put_done(answer, yes_number(yes), 0, 0, 0, 0),
@@ -91,7 +91,7 @@ pub fn put_reach(answer: &mut [u64; 8], a: ReachAnswer)
 
 // Puts an answer of SKELETON.
 pub fn put_skeleton(answer: &mut [u64; 8], a: SkeletonAnswer)
-    ensures { answer.new ≡ answer-eight (skeleton-told a) }
+    ensures { answer.new ≡ answer_eight (skeleton_told a) }
 {
     match a {
         SkeletonAnswer::Done { arcs } => put_done(answer, arcs, 0, 0, 0, 0),
@@ -101,7 +101,7 @@ pub fn put_skeleton(answer: &mut [u64; 8], a: SkeletonAnswer)
 
 // Puts an answer of PLAN.
 pub fn put_plan(answer: &mut [u64; 8], a: PlanAnswer)
-    ensures { answer.new ≡ answer-eight (plan-told a) }
+    ensures { answer.new ≡ answer_eight (plan_told a) }
 {
     match a {
         PlanAnswer::Done {

@@ -1,9 +1,9 @@
 // An arc of a network file: its tail and its head.
 //   arc    the arc at a reading place, or its refusal
 ghost use Rattle.std.specs.Prelude.{◌≡◌};
-ghost use Rattle.rules.specs.File.{zone-at, arc-at};
-ghost use Rattle.filenumbers.specs.Readings.{number-reading};
-ghost use Rattle.filearcs.specs.Readings.{arc-reading};
+ghost use Rattle.rules.specs.File.{zone_at, arc_at};
+ghost use Rattle.filenumbers.specs.Readings.{number_reading};
+ghost use Rattle.filearcs.specs.Readings.{arc_reading};
 
 use filenumbers::{Cursor, NumberRead};
 use rules::{Trouble, TroubleKind};
@@ -21,7 +21,7 @@ pub enum ArcRead {
 
 // A zone number, which is below the zone count, or else refused with this kind.
 fn zone(s: &[u8], c: Cursor, zones: usize, kind: TroubleKind) -> NumberRead
-    ensures { number-reading result ≡ zone-at s.now kind zones c.at }
+    ensures { number_reading result ≡ zone_at s.now kind zones c.at }
 {
     let place = c.at;
     match c.number(s) {
@@ -39,7 +39,7 @@ fn zone(s: &[u8], c: Cursor, zones: usize, kind: TroubleKind) -> NumberRead
 
 // An arc: its tail, its head, and the two distinct. RANGE is said of the tail, HEAD of the head.
 pub fn arc(s: &[u8], c: Cursor, zones: usize) -> ArcRead
-    ensures { arc-reading result ≡ arc-at s.now zones c.at }
+    ensures { arc_reading result ≡ arc_at s.now zones c.at }
 {
     match zone(s, c, zones, TroubleKind::Range) {
         NumberRead::Refused(t) => {

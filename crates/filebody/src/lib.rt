@@ -2,7 +2,7 @@
 //   body    its arcs, and nothing after them: tested to the end, and only then stored
 ghost use Rattle.std.specs.Prelude.{◌≤◌, length};
 ghost use Rattle.rules.specs.File.{body_at};
-ghost use Rattle.filebody.specs.Answered.{Reading-answered};
+ghost use Rattle.filebody.specs.Answered.{ReadingAnswered};
 
 use filenumbers::Cursor;
 use filepasses::{ScanRead, scan, store};
@@ -19,7 +19,7 @@ pub fn body(
 ) -> ReadAnswer
     requires zones_bound { zones ≤ 1024 }
     requires arcs_in_bounds { (arcs ≤ length tails.old) × (arcs ≤ length heads.old) }
-    ensures { Reading-answered (body_at file.now zones arcs from.at)
+    ensures { ReadingAnswered (body_at file.now zones arcs from.at)
         tails.old heads.old result tails.new heads.new }
 {
     match scan(file, from, zones, arcs) {

@@ -1,5 +1,5 @@
 -- The bytes of a network, and lists of bytes with others put into them.
---   rest-bytes i ts hs    the bytes of the arcs from index i on, with rest-cons, rest-length, rest-turn and rest-none
+--   rest_bytes i ts hs    the bytes of the arcs from index i on, with rest_cons, rest_length, rest_turn and rest_none
 -- Assumes nothing.
 use Prim.Native.Nat.{ℕ, suc, ◌+◌, ◌≤◌, ◌<◌}
 use native.Mathlib.Numerals.{add-one}
@@ -8,40 +8,40 @@ use mathlib.Core.Path.{◌≡◌}
 use mathlib.Core.List.{List, [], ◌++◌, append_assoc, zip_with}
 use lib.ListN.{length, get_or, drop, length-append, drop_of_length-le}
 use lib.Seq.{drop-cons, sets}
-use Rattle.rules.specs.Number.{number-bytes}
-use Rattle.rules.specs.File.{arc-bytes, arcs-bytes}
-use Rattle.rules.specs.Calls.{arcs-of}
-use Rattle.theory.proofs.Ground.Storing.{sets-append}
+use Rattle.rules.specs.Number.{number_bytes}
+use Rattle.rules.specs.File.{arc_bytes, arcs_bytes}
+use Rattle.rules.specs.Calls.{arcs_of}
+use Rattle.theory.proofs.Ground.Storing.{sets_append}
 
 -- The bytes of the arcs from index i on.
-abbrev pub rest-bytes : ℕ → List ℕ → List ℕ → List ℕ
-rest-bytes i ts hs = arcs-bytes (arcs-of (drop i ts) (drop i hs))
+abbrev pub rest_bytes : ℕ → List ℕ → List ℕ → List ℕ
+rest_bytes i ts hs = arcs_bytes (arcs_of (drop i ts) (drop i hs))
 
 -- They are those of the arc i, and then the rest.
-pub rest-cons : (i : ℕ) (ts hs : List ℕ) → i < length ts → i < length hs
-    → rest-bytes i ts hs ≡ number-bytes (get_or ts i 0) ++ (number-bytes (get_or hs i 0) ++ rest-bytes (i + 1) ts hs)
-unfolding arcs-of zip_with arcs-bytes arc-bytes
-rest-cons i ts hs p q =
-    let rest = arcs-bytes (arcs-of (drop (suc i) ts) (drop (suc i) hs)) in
+pub rest_cons : (i : ℕ) (ts hs : List ℕ) → i < length ts → i < length hs
+    → rest_bytes i ts hs ≡ number_bytes (get_or ts i 0) ++ (number_bytes (get_or hs i 0) ++ rest_bytes (i + 1) ts hs)
+unfolding arcs_of zip_with arcs_bytes arc_bytes
+rest_cons i ts hs p q =
+    let rest = arcs_bytes (arcs_of (drop (suc i) ts) (drop (suc i) hs)) in
     rw (add-one, drop-cons ts i 0, drop-cons hs i 0)
-    (append_assoc (number-bytes (get_or ts i 0)) (number-bytes (get_or hs i 0)) rest)
+    (append_assoc (number_bytes (get_or ts i 0)) (number_bytes (get_or hs i 0)) rest)
 
 -- Their length.
-pub rest-length : (i : ℕ) (ts hs : List ℕ) → i < length ts → i < length hs
-    → length (rest-bytes i ts hs)
-    ≡ length (number-bytes (get_or ts i 0)) + length (number-bytes (get_or hs i 0)) + length (rest-bytes (i + 1) ts hs)
-rest-length i ts hs p q = rw (rest-cons i ts hs p q) (simp length-append (omega arith))
+pub rest_length : (i : ℕ) (ts hs : List ℕ) → i < length ts → i < length hs
+    → length (rest_bytes i ts hs)
+    ≡ length (number_bytes (get_or ts i 0)) + length (number_bytes (get_or hs i 0)) + length (rest_bytes (i + 1) ts hs)
+rest_length i ts hs p q = rw (rest_cons i ts hs p q) (simp length-append (omega arith))
 
 -- A turn of the loop that puts them in: a tail at one place, a head at the next.
-pub rest-turn : (file : List ℕ) (i at : ℕ) (ts hs : List ℕ) {mid next : ℕ} {f f' : List ℕ}
+pub rest_turn : (file : List ℕ) (i at : ℕ) (ts hs : List ℕ) {mid next : ℕ} {f f' : List ℕ}
     → i < length ts → i < length hs
-    → mid ≡ at + length (number-bytes (get_or ts i 0)) → f ≡ sets file at (number-bytes (get_or ts i 0))
-    → next ≡ mid + length (number-bytes (get_or hs i 0)) → f' ≡ sets f mid (number-bytes (get_or hs i 0))
-    → sets file at (rest-bytes i ts hs) ≡ sets f' next (rest-bytes (i + 1) ts hs)
-rest-turn file i at ts hs p q m e n e' =
-    rw (rest-cons i ts hs p q, sets-append, sets-append, e', n, e, m)
+    → mid ≡ at + length (number_bytes (get_or ts i 0)) → f ≡ sets file at (number_bytes (get_or ts i 0))
+    → next ≡ mid + length (number_bytes (get_or hs i 0)) → f' ≡ sets f mid (number_bytes (get_or hs i 0))
+    → sets file at (rest_bytes i ts hs) ≡ sets f' next (rest_bytes (i + 1) ts hs)
+rest_turn file i at ts hs p q m e n e' =
+    rw (rest_cons i ts hs p q, sets_append, sets_append, e', n, e, m)
 
 -- Past the last arc there are none.
-pub rest-none : (i : ℕ) (ts hs : List ℕ) → length ts ≤ i → rest-bytes i ts hs ≡ []
-unfolding arcs-of zip_with arcs-bytes
-rest-none i ts hs h = rw (drop_of_length-le ts h)
+pub rest_none : (i : ℕ) (ts hs : List ℕ) → length ts ≤ i → rest_bytes i ts hs ≡ []
+unfolding arcs_of zip_with arcs_bytes
+rest_none i ts hs h = rw (drop_of_length-le ts h)

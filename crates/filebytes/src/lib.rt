@@ -4,15 +4,15 @@
 ghost use Rattle.std.specs.Prelude.{◌≡◌, ◌+◌, ◌≤◌, length};
 ghost use Rattle.std.proofs.lemmas.List.Edits.{sets};
 ghost use Rattle.rules.specs.Lists.{over};
-ghost use Rattle.rules.specs.File.{arcs-bytes};
-ghost use Rattle.rules.specs.Calls.{arcs-of, written};
+ghost use Rattle.rules.specs.File.{arcs_bytes};
+ghost use Rattle.rules.specs.Calls.{arcs_of, written};
 
 use filegroups::{number_length, write_number};
 
 // How many bytes the arcs are written as.
 pub fn arcs_length(tails: &[u16], heads: &[u16]) -> usize
     requires { (length tails.now ≡ length heads.now) × (length tails.now ≤ 4096) }
-    ensures { result ≡ length (arcs-bytes (arcs-of tails.now heads.now)) }
+    ensures { result ≡ length (arcs_bytes (arcs_of tails.now heads.now)) }
 {
     let mut total = 0;
     let mut i = 0;
@@ -28,9 +28,9 @@ pub fn arcs_length(tails: &[u16], heads: &[u16]) -> usize
 // Puts the arcs in, one after the other, from a place on.
 fn write_arcs(file: &mut [u8], from: usize, tails: &[u16], heads: &[u16])
     requires tails_len { length tails.now ≡ length heads.now }
-    requires heads_in_bounds { from + length (arcs-bytes (arcs-of tails.now heads.now)) ≤ length file.old }
+    requires heads_in_bounds { from + length (arcs_bytes (arcs_of tails.now heads.now)) ≤ length file.old }
     ensures { file.new
-        ≡ sets file.old from (arcs-bytes (arcs-of tails.now heads.now)) }
+        ≡ sets file.old from (arcs_bytes (arcs_of tails.now heads.now)) }
 {
     let mut at = from;
     let mut i = 0;

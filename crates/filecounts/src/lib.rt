@@ -2,8 +2,8 @@
 //   zone_count    the zone count, which stands first: 1 to 1,024
 //   arc_count     the arc count: 0 to 4,096, and no more than the two lent lists have room for
 ghost use Rattle.std.specs.Prelude.{◌≡◌};
-ghost use Rattle.filenumbers.specs.Readings.{number-reading};
-ghost use Rattle.filecounts.specs.Counts.{number-within, zones-at, count_at};
+ghost use Rattle.filenumbers.specs.Readings.{number_reading};
+ghost use Rattle.filecounts.specs.Counts.{number_within, zones_at, count_at};
 
 use filenumbers::{Cursor, NumberRead, number_refused};
 use rules::TroubleKind;
@@ -16,7 +16,7 @@ fn within(
     kind: TroubleKind,
     place: usize,
 ) -> NumberRead
-    ensures { number-reading result ≡ number-within (number-reading found) least most kind place }
+    ensures { number_reading result ≡ number_within (number_reading found) least most kind place }
 {
     match found {
         NumberRead::Refused(t) => {
@@ -36,7 +36,7 @@ fn within(
 
 // The zone count.
 pub fn zone_count(s: &[u8]) -> NumberRead
-    ensures { number-reading result ≡ zones-at s.now }
+    ensures { number_reading result ≡ zones_at s.now }
 {
     let first = Cursor { at: 0 };
     let number = first.number(s);
@@ -45,7 +45,7 @@ pub fn zone_count(s: &[u8]) -> NumberRead
 
 // The arc count, with room for so many tails and heads.
 pub fn arc_count(s: &[u8], c: Cursor, tails: usize, heads: usize) -> NumberRead
-    ensures { number-reading result ≡ count_at s.now tails heads c.at }
+    ensures { number_reading result ≡ count_at s.now tails heads c.at }
 {
     let place = c.at;
     let number = c.number(s);

@@ -3,11 +3,11 @@
 //   write_number     the bytes of a number, put into a lent list
 ghost use Rattle.std.specs.Prelude.{◌≡◌, ◌+◌, ◌≤◌, ◌<◌, length};
 ghost use Rattle.std.proofs.lemmas.List.Edits.{sets};
-ghost use Rattle.rules.specs.Number.{number-bytes};
+ghost use Rattle.rules.specs.Number.{number_bytes};
 
 // How many bytes a number is written as.
 pub fn number_length(n: usize) -> usize
-    ensures { result ≡ length (number-bytes n) }
+    ensures { result ≡ length (number_bytes n) }
 {
     if n < 128 {
         return 1;
@@ -20,9 +20,9 @@ pub fn number_length(n: usize) -> usize
 
 // Puts a number in at a place, and answers with the place after it.
 pub fn write_number(file: &mut [u8], at: usize, n: usize) -> usize
-    requires { (n < 2097152) × (at + length (number-bytes n) ≤ length file.old) }
-    ensures { (result ≡ at + length (number-bytes n))
-        × (file.new ≡ sets file.old at (number-bytes n)) }
+    requires { (n < 2097152) × (at + length (number_bytes n) ≤ length file.old) }
+    ensures { (result ≡ at + length (number_bytes n))
+        × (file.new ≡ sets file.old at (number_bytes n)) }
 {
     if n < 128 {
         file[at] = n as u8;

@@ -2,7 +2,7 @@
 //   known    the number at a place where a good one of at most two groups stands
 ghost use Rattle.std.specs.Prelude.{◌≡◌};
 ghost use Rattle.rules.specs.Number.{got, number_at};
-ghost use Rattle.fileknown.specs.Numbers.{Good-number};
+ghost use Rattle.fileknown.specs.Numbers.{GoodNumber};
 
 // What a known number is: its value, and the place after it.
 #[derive(Drop)]
@@ -13,7 +13,7 @@ pub struct KnownNumber {
 
 // The number at a place where a good one of at most two groups stands. Nothing is tested again.
 pub fn known(s: &[u8], at: usize) -> KnownNumber
-    requires { Good-number s.now at }
+    requires { GoodNumber s.now at }
     ensures { number_at s.now at ≡ got result.value result.next }
 {
     let b = s[at];

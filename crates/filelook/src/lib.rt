@@ -2,8 +2,8 @@
 //   quick_number    the number at a place, taken to have at most two groups
 //   quick_arc       the place after an arc that is plainly good
 ghost use Rattle.std.specs.Prelude.{◌+◌, ◌≤◌, ◌<◌, length};
-ghost use Rattle.rules.specs.File.{arc-at};
-ghost use Rattle.filelook.specs.Looks.{Number-seen, Arc-seen};
+ghost use Rattle.rules.specs.File.{arc_at};
+ghost use Rattle.filelook.specs.Looks.{NumberSeen, ArcSeen};
 
 // What a quick look at a number finds: its value, and the place after it.
 #[derive(Drop)]
@@ -24,7 +24,7 @@ pub enum ArcLook {
 // 16,384 or above.
 fn quick_number(s: &[u8], at: usize) -> NumberLook
     requires { at + 1 < length s.now }
-    ensures { Number-seen result s.now at }
+    ensures { NumberSeen result s.now at }
 {
     let b = s[at];
     if b < 128 {
@@ -43,7 +43,7 @@ fn quick_number(s: &[u8], at: usize) -> NumberLook
 // The arc at a place, if four bytes stand there and they begin with a good one.
 pub fn quick_arc(s: &[u8], at: usize, zones: usize) -> ArcLook
     requires { zones ≤ 1024 }
-    ensures { Arc-seen result (arc-at s.now zones at) }
+    ensures { ArcSeen result (arc_at s.now zones at) }
 {
     let size = s.len();
     if size < 4 {

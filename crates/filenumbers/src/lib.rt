@@ -4,7 +4,7 @@
 // LONG and LOOSE are placed at the offending group, which an operator finds with a byte editor.
 ghost use Rattle.std.specs.Prelude.{◌≡◌, ◌+◌, ◌<◌, length};
 ghost use Rattle.rules.specs.Number.{number_at, second_group, third_group};
-ghost use Rattle.filenumbers.specs.Readings.{number-reading};
+ghost use Rattle.filenumbers.specs.Readings.{number_reading};
 
 use rules::{Trouble, TroubleKind};
 
@@ -31,7 +31,7 @@ pub fn number_refused(kind: TroubleKind, place: usize) -> NumberRead
 impl Cursor {
     // The number at the cursor.
     pub fn number(self, s: &[u8]) -> NumberRead
-        ensures { number-reading result ≡ number_at s.now self.at }
+        ensures { number_reading result ≡ number_at s.now self.at }
     {
         let at = self.at;
         let size = s.len();
@@ -49,7 +49,7 @@ impl Cursor {
 // The second group of the number at `at`, after one that is worth `low`.
 fn second(s: &[u8], at: usize, low: usize) -> NumberRead
     requires { (low < 128) × (at < length s.now) }
-    ensures { number-reading result ≡ second_group s.now at low }
+    ensures { number_reading result ≡ second_group s.now at low }
 {
     let here = at + 1;
     let end = s.len();
@@ -67,7 +67,7 @@ fn second(s: &[u8], at: usize, low: usize) -> NumberRead
 // The third group of the number that starts at `start`, after two that are worth `low`.
 fn third(s: &[u8], start: usize, low: usize) -> NumberRead
     requires { (low < 16384) × (start + 1 < length s.now) }
-    ensures { number-reading result ≡ third_group s.now start low }
+    ensures { number_reading result ≡ third_group s.now start low }
 {
     let last = start + 2;
     let size = s.len();

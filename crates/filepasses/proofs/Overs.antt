@@ -1,5 +1,5 @@
 -- A lent list with a result put into it.
---   over-more     one more element of the result: a store at its end
+--   over_more     one more element of the result: a store at its end
 -- Assumes nothing.
 use Prim.Native.Nat.{ℕ, ◌<◌}
 use native.Mathlib.Numerals.{add-one}
@@ -10,8 +10,8 @@ use lib.Seq.{drop-cons, set-append_seam, append_snoc}
 use Rattle.rules.specs.Lists.{over}
 
 -- A store at the end of the result is one more element of it.
-pub over-more : (xs old : List ℕ) (v : ℕ) → length xs < length old
+pub over_more : (xs old : List ℕ) (v : ℕ) → length xs < length old
     → set (over xs old) (length xs) v ≡ over (xs ++ (v ∷ [])) old
-over-more xs old v h =
+over_more xs old v h =
     rw (drop-cons old (length xs) 0, set-append_seam, length-append)
     (sym (append_snoc xs v _) ∙ rw (add-one (length xs)))

@@ -1,7 +1,7 @@
 -- What the passes over the arcs of a file say and leave, in the words of the rules.
 --   Accepted r         a reading that finds something
 --   Scanned a r        the answer a of a test says where the reading r ends, or its refusal
---   Arcs-stored r ..   two lists after the arcs that a reading r finds were put into them
+--   ArcsStored r ..   two lists after the arcs that a reading r finds were put into them
 use Rattle.std.specs.Prelude.{ℕ, ◌≡◌, List, map}
 use Rattle.rules.specs.Lists.{over}
 use Rattle.rules.specs.Network.{Arc}
@@ -18,6 +18,6 @@ Scanned {A} (ScanRead.End c) r = (x : A) × (r ≡ got x c.at)
 Scanned (ScanRead.Refused t) r = r ≡ bad t
 
 -- the lists ts' and hs' are ts and hs with the arcs put into them
-pub record Arcs-stored (r : Reading (List Arc)) (ts hs ts' hs' : List ℕ) : Type 0 where
+pub record ArcsStored (r : Reading (List Arc)) (ts hs ts' hs' : List ℕ) : Type 0 where
   pub tails : (es : List Arc) (end : ℕ) → r ≡ got es end → ts' ≡ over (map (λ (e : Arc). e.tail) es) ts
   pub heads : (es : List Arc) (end : ℕ) → r ≡ got es end → hs' ≡ over (map (λ (e : Arc). e.head) es) hs

@@ -3,8 +3,8 @@
 //   scan     tests the arcs of a file, one after the other
 //   store    puts the arcs of an accepted file into two lent lists
 ghost use Rattle.std.specs.Prelude.{◌≤◌, length};
-ghost use Rattle.rules.specs.File.{arc-at, arcs-at};
-ghost use Rattle.filepasses.specs.Readings.{Scanned, Accepted, Arcs-stored};
+ghost use Rattle.rules.specs.File.{arc_at, arcs_at};
+ghost use Rattle.filepasses.specs.Readings.{Scanned, Accepted, ArcsStored};
 
 use filearcs::{ArcRead, arc};
 use fileknown::known;
@@ -22,7 +22,7 @@ pub enum ScanRead {
 // An arc: where it ends, or its refusal. Looked at closer only where a quick look does not find it good.
 fn one_arc(s: &[u8], c: Cursor, zones: usize) -> ScanRead
     requires { zones ≤ 1024 }
-    ensures { Scanned result (arc-at s.now zones c.at) }
+    ensures { Scanned result (arc_at s.now zones c.at) }
 {
     match quick_arc(s, c.at, zones) {
         ArcLook::Good(next) => return ScanRead::End(Cursor { at: next }),
@@ -40,7 +40,7 @@ fn one_arc(s: &[u8], c: Cursor, zones: usize) -> ScanRead
 // The arcs of a file, one after the other: where they end, or the first refusal. Nothing is stored.
 pub fn scan(s: &[u8], from: Cursor, zones: usize, arcs: usize) -> ScanRead
     requires { zones ≤ 1024 }
-    ensures { Scanned result (arcs-at s.now zones arcs from.at) }
+    ensures { Scanned result (arcs_at s.now zones arcs from.at) }
 {
     let mut c = from;
     let mut k = 0;
@@ -69,8 +69,8 @@ pub fn store(
 )
     requires zones_bound { zones ≤ 1024 }
     requires arcs_in_bounds { (arcs ≤ length tails.old) × (arcs ≤ length heads.old) }
-    requires accepted { Accepted (arcs-at s.now zones arcs from.at) }
-    ensures { Arcs-stored (arcs-at s.now zones arcs from.at)
+    requires accepted { Accepted (arcs_at s.now zones arcs from.at) }
+    ensures { ArcsStored (arcs_at s.now zones arcs from.at)
         tails.old heads.old tails.new heads.new }
 {
     let mut at = from.at;

@@ -4,7 +4,7 @@
 //     lo, ended     how many zones have ended;   hi   where in the order's region the stack's top stands
 ghost use Rattle.std.specs.Prelude.{◌≡◌, ℕ, ◌-◌, ◌<◌};
 ghost use Rattle.memory.specs.Regions.{cell};
-ghost use Rattle.descent.specs.Memory.{Ready, State, Order-kept, Begun, Finished};
+ghost use Rattle.descent.specs.Memory.{Ready, State, OrderKept, Begun, Finished};
 
 use descent::descend;
 use workmap::{OrderAt, RowsAt};
@@ -13,7 +13,7 @@ use workmap::{OrderAt, RowsAt};
 fn deepen(work: &mut [u16], rows: RowsAt, at: OrderAt, ended: usize) -> usize
     requires ready { Ready work.old rows at }
     requires zones_nonzero { (0 < rows.zones) × State work.old rows at ended (rows.zones - 1) }
-    ensures { Order-kept work.old work.new rows at
+    ensures { OrderKept work.old work.new rows at
         × State work.new rows at result rows.zones }
 {
     let mut lo = ended;
@@ -52,7 +52,7 @@ fn begin(work: &mut [u16], rows: RowsAt, at: OrderAt, r: usize, ended: usize) ->
 fn begin_all(work: &mut [u16], rows: RowsAt, at: OrderAt)
     requires ready { Ready work.old rows at }
     requires state { State work.old rows at 0 rows.zones }
-    ensures { Order-kept work.old work.new rows at
+    ensures { OrderKept work.old work.new rows at
         × Finished work.new rows at }
 {
     let mut lo = 0;
@@ -68,7 +68,7 @@ fn begin_all(work: &mut [u16], rows: RowsAt, at: OrderAt)
 pub fn finish(work: &mut [u16], rows: RowsAt, at: OrderAt)
     requires ready { Ready work.old rows at }
     requires by_index { (v : ℕ) → v < rows.zones → cell work.old at.seen v ≡ 0 }
-    ensures { Order-kept work.old work.new rows at
+    ensures { OrderKept work.old work.new rows at
         × Finished work.new rows at }
 {
     memory::copy(work, rows.starts, rows.zones, at.next);

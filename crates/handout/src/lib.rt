@@ -1,5 +1,5 @@
 // The links of a plan that stands in lent work memory, in three columns, handed out to three lent lists.
-ghost use Rattle.handout.specs.Handout.{Handable, Handed-out};
+ghost use Rattle.handout.specs.Handout.{Handable, HandedOut};
 
 use memory::copy_out;
 use workmap::LinksAt;
@@ -14,7 +14,7 @@ pub fn hand_out(
     why: &mut [u16],
 )
     requires { Handable work.now at n from.old to.old why.old }
-    ensures { Handed-out work.now at n from.old to.old why.old
+    ensures { HandedOut work.now at n from.old to.old why.old
         from.new to.new why.new }
 {
     copy_out(work, at.from, n, from);

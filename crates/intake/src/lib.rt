@@ -1,10 +1,10 @@
 // The tests of a network that is handed in, in their order, with the set of its withdrawn zones, and the test of the
 // work memory, which asks for as much as the network's counts say.
 ghost use Rattle.std.specs.Prelude.{◌≡◌, [], ◌∷◌, length};
-ghost use Rattle.rules.specs.Calls.{arcs-tests, arcs-of, room-test, asked-work};
+ghost use Rattle.rules.specs.Calls.{arcs_tests, arcs_of, room_test, asked_work};
 ghost use Rattle.zoneset.specs.Held.{held};
-ghost use Rattle.probes.specs.Tested.{Found-by, Found-after, Counted};
-ghost use Rattle.intake.specs.Taken.{first-tests, Taken};
+ghost use Rattle.probes.specs.Tested.{FoundBy, FoundAfter, Counted};
+ghost use Rattle.intake.specs.Taken.{first_tests, Taken};
 
 use probes::{Tested, arc, room, test, zones_bad};
 use rules::TroubleKind;
@@ -21,7 +21,7 @@ pub struct Intake {
 
 // The tests before the arcs.
 fn first_tests(zones: usize, tails: &[u16], heads: &[u16], gone: &[u16]) -> Tested
-    ensures { Found-by (first-tests zones tails.now heads.now gone.now) result }
+    ensures { FoundBy (first_tests zones tails.now heads.now gone.now) result }
 {
     let bad = zones_bad(zones);
     let paired = test(
@@ -39,8 +39,8 @@ fn first_tests(zones: usize, tails: &[u16], heads: &[u16], gone: &[u16]) -> Test
 // The tests of the arcs, one after the other.
 fn arcs(zones: usize, tails: &[u16], heads: &[u16], gone: &[u64]) -> Tested
     requires { length tails.now ≡ length heads.now }
-    ensures { Found-by
-        (arcs-tests zones 0 (arcs-of tails.now heads.now) (held gone.now)) result }
+    ensures { FoundBy
+        (arcs_tests zones 0 (arcs_of tails.now heads.now) (held gone.now)) result }
 {
     let mut i = 0;
     while i < tails.len() {
@@ -76,7 +76,7 @@ pub fn network(zones: usize, tails: &[u16], heads: &[u16], gone: &[u16]) -> Inta
 // are within their bounds then.
 pub fn work(before: Tested, zones: usize, arcs: usize, lent: usize) -> Tested
     requires { Counted before zones arcs }
-    ensures { Found-after before (room-test (asked-work zones arcs) lent ∷ []) result }
+    ensures { FoundAfter before (room_test (asked_work zones arcs) lent ∷ []) result }
 {
     if let Tested::Refused(t) = before {
         return Tested::Refused(t);

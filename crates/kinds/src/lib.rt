@@ -3,9 +3,9 @@
 // components alone are put, as three ascending lists, and counted, by a pass over the zones for each. The map says
 // where everything stands.
 ghost use Rattle.std.specs.Prelude.{◌≡◌, ◌<◌};
-ghost use Rattle.rules.specs.Network.{network-with};
-ghost use Rattle.rules.specs.Calls.{arcs-of};
-ghost use Rattle.borders.specs.Borders.{Kinds-room, own-kind};
+ghost use Rattle.rules.specs.Network.{network_with};
+ghost use Rattle.rules.specs.Calls.{arcs_of};
+ghost use Rattle.borders.specs.Borders.{KindsRoom, own_kind};
 ghost use Rattle.kinds.specs.Lists.{Listable, Listing, Nameable, Withdrawable, Listed};
 
 use borders::mark;
@@ -22,8 +22,8 @@ pub struct Counts {
 
 // Whether z is a name, with x in the region of what is entered and y in the region of what is left.
 fn of_kind(at: KindsAt, x: u16, y: u16, z: usize, work: &[u16]) -> bool
-    requires { Kinds-room at work.now × (z < at.zones) }
-    ensures { result ≡ own-kind at x y work.now z }
+    requires { KindsRoom at work.now × (z < at.zones) }
+    ensures { result ≡ own_kind at x y work.now z }
 {
     let names = at.names;
     let entered = at.entered;
@@ -66,9 +66,9 @@ pub fn list_kinds(
     work: &mut [u16],
 ) -> Counts
     requires nameable { Nameable at to tails.now heads.now work.old }
-    requires withdrawable { Withdrawable at.zones (arcs-of tails.now heads.now) gone.now }
+    requires withdrawable { Withdrawable at.zones (arcs_of tails.now heads.now) gone.now }
     ensures { Listed at to
-        (network-with at.zones (arcs-of tails.now heads.now) gone.now) result
+        (network_with at.zones (arcs_of tails.now heads.now) gone.now) result
         work.old work.new }
 {
     mark(at, tails, heads, work);

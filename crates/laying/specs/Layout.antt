@@ -1,6 +1,6 @@
 -- What laying out a plan leaves in lent work memory.
 --   layout_of k c                 the numbers of the kinds, with the pairs and the links of a connection
---   Laid_out before w m N r       the plan of the network N stands in w in the columns of the map m, and r has its
+--   LaidOut before w m N r       the plan of the network N stands in w in the columns of the map m, and r has its
 --                                 numbers
 use Rattle.std.specs.Prelude.{◌≡◌, List, ℕ, ◌≤◌, length, drop}
 use Rattle.rules.specs.Network.{Network}
@@ -18,9 +18,9 @@ layout_of k c =
     record { sources = k.sources; sinks = k.sinks; alone = k.alone; pairs = c.pairs; need = c.need }
 
 -- the plan stands in the memory, r has its numbers, and past the asked part the memory is as it came
-pub record Laid_out (before w : List ℕ) (m : Map) (N : Network) (r : Layout) : Type 0 where
+pub record LaidOut (before w : List ℕ) (m : Map) (N : Network) (r : Layout) : Type 0 where
   pub figures : Figures N r
-  pub links-are : r.need ≡ length (plan N)
+  pub links_are : r.need ≡ length (plan N)
   pub few : r.need ≤ m.zones
   pub columns : Columns w m.links (plan N)
   pub long : length w ≡ length before

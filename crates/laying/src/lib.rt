@@ -1,9 +1,9 @@
 // Laying out a plan in lent work memory: a network that is not strong is surveyed, and its sources and sinks are
 // connected on the side on which the rule runs.
 ghost use Rattle.std.specs.Prelude.{◌≡◌, min, max};
-ghost use Rattle.rules.specs.Calls.{handed-with};
-ghost use Rattle.withdrawn.specs.Withdrawn.{Ready-with};
-ghost use Rattle.laying.specs.Layout.{layout_of, Laid_out};
+ghost use Rattle.rules.specs.Calls.{handed_with};
+ghost use Rattle.withdrawn.specs.Withdrawn.{ReadyWith};
+ghost use Rattle.laying.specs.Layout.{layout_of, LaidOut};
 
 use connect::{Connection, connect};
 use figures::Layout;
@@ -42,9 +42,9 @@ fn layout_of(k: Counts, made: Connection) -> Layout
 // Leaves the plan in the work memory, in the columns that the map names. A strong network has one component, alone,
 // and gets no link. The rule runs on the side with no more sources than sinks.
 pub fn lay(m: Map, tails: &[u16], heads: &[u16], gone: &[u16], work: &mut [u16]) -> Layout
-    requires { Ready-with m tails.now heads.now gone.now work.old }
-    ensures { Laid_out work.old work.new m
-        (handed-with m.zones tails.now heads.now gone.now) result }
+    requires { ReadyWith m tails.now heads.now gone.now work.old }
+    ensures { LaidOut work.old work.new m
+        (handed_with m.zones tails.now heads.now gone.now) result }
 {
     let k = survey(m, tails, heads, gone, work);
     let q = k.alone;

@@ -1,9 +1,9 @@
 -- Laws of the lines of links: what a turn of the loop that puts them does, and how long they are at most.
 --   lines_start     before the first turn nothing is put
---   lines-room      room for all lines is room for the next one
+--   lines_room      room for all lines is room for the next one
 --   lines_more      once it is put, one line more is put
---   lines-length    a line has at most 18 bytes: twice 5 digits, a space, and the longest word
---   links-lines     over the numbers of a list of links they are the lines of the rules
+--   lines_length    a line has at most 18 bytes: twice 5 digits, a space, and the longest word
+--   links_lines     over the numbers of a list of links they are the lines of the rules
 -- Assumes nothing.
 use Prim.Native.Nat.{ℕ, zero, suc, ◌+◌, ◌*◌, ◌^◌, ◌≤◌, ◌<◌}
 use mathlib.Core.Path.{◌≡◌, refl, sym, ◌∙◌}
@@ -13,14 +13,14 @@ use native.Mathlib.Nat.{le_refl, eq-or-lt_of_le, add-zero}
 use native.Mathlib.Numerals.{add-one}
 use native.Mathlib.Omega.{arith}
 use lib.ListN.{length, get_or, take, length-append, take-append-drop}
-use Rattle.rules.specs.Plan.{Link, why-number}
-use Rattle.rules.specs.Text.{word, decimal, why-word, link-lines}
-use Rattle.buffer.specs.Put.{put, Text-room, Written}
+use Rattle.rules.specs.Plan.{Link, why_number}
+use Rattle.rules.specs.Text.{word, decimal, why_word, link_lines}
+use Rattle.buffer.specs.Put.{put, TextRoom, Written}
 use Rattle.buffer.specs.Words.{labelled}
-use Rattle.buffer.proofs.Decimal.{decimal-length}
-use Rattle.buffer.proofs.Puts.{room-rest, written_then}
-use Rattle.lines.specs.Lines.{why-text, line, lines_of}
-use Rattle.lines.proofs.Whys.{why-words, why-length}
+use Rattle.buffer.proofs.Decimal.{decimal_length}
+use Rattle.buffer.proofs.Puts.{room_rest, written_then}
+use Rattle.lines.specs.Lines.{why_text, line, lines_of}
+use Rattle.lines.proofs.Whys.{why_words, why_length}
 
 -- the line of the link at place i of three lists of numbers
 abbrev pub line_at : List ℕ → List ℕ → List ℕ → ℕ → List ℕ
@@ -36,61 +36,61 @@ lines_start out f t w at =
     }
 
 -- the lines of fewer links are no longer
-lines-mono : (f t w : List ℕ) (i n : ℕ) → i ≤ n → length (lines_of f t w i) ≤ length (lines_of f t w n)
+lines_mono : (f t w : List ℕ) (i n : ℕ) → i ≤ n → length (lines_of f t w i) ≤ length (lines_of f t w n)
 unfolding lines_of
-lines-mono f t w i zero h = let e : i ≡ 0 = omega arith in rw e (le_refl 0)
-lines-mono f t w i (suc n) h =
+lines_mono f t w i zero h = let e : i ≡ 0 = omega arith in rw e (le_refl 0)
+lines_mono f t w i (suc n) h =
     ⊎_elim
     (λ (e : i ≡ suc n). rw e (le_refl (length (lines_of f t w (suc n)))))
     (λ (l : i < suc n).
-    omega (arith, lines-mono f t w i n (omega arith), length-append (lines_of f t w n) (line_at f t w n)))
+    omega (arith, lines_mono f t w i n (omega arith), length-append (lines_of f t w n) (line_at f t w n)))
     (eq-or-lt_of_le h)
 
 -- room for all lines is room for those of the links up to place i, and of that link
-lines-up-to : {out : List ℕ} {at : ℕ} (f t w : List ℕ) (i n : ℕ) → i < n
-    → Text-room out at (lines_of f t w n)
-    → Text-room out at (lines_of f t w i ++ line_at f t w i)
+lines_up_to : {out : List ℕ} {at : ℕ} (f t w : List ℕ) (i n : ℕ) → i < n
+    → TextRoom out at (lines_of f t w n)
+    → TextRoom out at (lines_of f t w i ++ line_at f t w i)
 unfolding lines_of
-lines-up-to f t w i n h r = record { fits = omega (arith, r.fits, lines-mono f t w (suc i) n h) }
+lines_up_to f t w i n h r = record { fits = omega (arith, r.fits, lines_mono f t w (suc i) n h) }
 
 -- room for all lines is room for the next one
-pub lines-room : {out after : List ℕ} {at end : ℕ} (f t w : List ℕ) (i n : ℕ) → i < n
-    → Text-room out at (lines_of f t w n)
-    → Written out at (lines_of f t w i) end after → Text-room after end (line_at f t w i)
-lines-room f t w i n h r v = room-rest (lines-up-to f t w i n h r) v
+pub lines_room : {out after : List ℕ} {at end : ℕ} (f t w : List ℕ) (i n : ℕ) → i < n
+    → TextRoom out at (lines_of f t w n)
+    → Written out at (lines_of f t w i) end after → TextRoom after end (line_at f t w i)
+lines_room f t w i n h r v = room_rest (lines_up_to f t w i n h r) v
 
 -- once the next line is put, one line more is put
 pub lines_more : {out mid after : List ℕ} {at m end : ℕ} (f t w : List ℕ) (i n : ℕ) → i < n
-    → Text-room out at (lines_of f t w n) → Written out at (lines_of f t w i) m mid
+    → TextRoom out at (lines_of f t w n) → Written out at (lines_of f t w i) m mid
     → Written mid m (line_at f t w i) end after
     → Written out at (lines_of f t w (i + 1)) end after
 unfolding lines_of
-lines_more f t w i n h r v x = rw (add-one i) (written_then (lines-up-to f t w i n h r) v x)
+lines_more f t w i n h r v x = rw (add-one i) (written_then (lines_up_to f t w i n h r) v x)
 
 -- a line has at most 18 bytes
-line-length : (a b k : ℕ) → a < 2 ^ 16 → b < 2 ^ 16 → length (line a b k) ≤ 18
+line_length : (a b k : ℕ) → a < 2 ^ 16 → b < 2 ^ 16 → length (line a b k) ≤ 18
 unfolding line labelled word
-line-length a b k small little =
-    let from : length (decimal a) ≤ 5 = decimal-length 4 a (omega arith) in
-    let to : length (decimal b) ≤ 5 = decimal-length 4 b (omega arith) in
+line_length a b k small little =
+    let from : length (decimal a) ≤ 5 = decimal_length 4 a (omega arith) in
+    let to : length (decimal b) ≤ 5 = decimal_length 4 b (omega arith) in
     omega (
       arith,
-      why-length k,
-      length-append (decimal a) (word " " ++ decimal b ++ why-text k),
-      length-append (word " " ++ decimal b) (why-text k),
+      why_length k,
+      length-append (decimal a) (word " " ++ decimal b ++ why_text k),
+      length-append (word " " ++ decimal b) (why_text k),
       length-append (word " ") (decimal b),
     )
 
 -- the lines of n links have at most 18 n bytes
-pub lines-length : (f t w : List ℕ) (n : ℕ) → ((i : ℕ) → get_or f i 0 < 2 ^ 16) → ((i : ℕ) → get_or t i 0 < 2 ^ 16)
+pub lines_length : (f t w : List ℕ) (n : ℕ) → ((i : ℕ) → get_or f i 0 < 2 ^ 16) → ((i : ℕ) → get_or t i 0 < 2 ^ 16)
     → length (lines_of f t w n) ≤ 18 * n
 unfolding lines_of
-lines-length f t w zero small little = omega arith
-lines-length f t w (suc n) small little =
+lines_length f t w zero small little = omega arith
+lines_length f t w (suc n) small little =
     omega (
       arith,
-      lines-length f t w n small little,
-      line-length (get_or f n 0) (get_or t n 0) (get_or w n 0) (small n) (little n),
+      lines_length f t w n small little,
+      line_length (get_or f n 0) (get_or t n 0) (get_or w n 0) (small n) (little n),
       length-append (lines_of f t w n) (line_at f t w n),
     )
 
@@ -103,19 +103,19 @@ lines_cons f t w a b k (suc n) =
     rw (lines_cons f t w a b k n) (append_assoc (line a b k) (lines_of f t w n) (line_at f t w n))
 
 -- the line of a link, before other bytes
-link-line : (l : Link) (rest : List ℕ)
-    → line l.start l.end (why-number l.why) ++ rest
-    ≡ decimal l.start ++ (word " " ++ (decimal l.end ++ (why-word l.why ++ rest)))
+link_line : (l : Link) (rest : List ℕ)
+    → line l.start l.end (why_number l.why) ++ rest
+    ≡ decimal l.start ++ (word " " ++ (decimal l.end ++ (why_word l.why ++ rest)))
 unfolding line labelled
-link-line l rest = rw (why-words l.why) (simp append_assoc)
+link_line l rest = rw (why_words l.why) (simp append_assoc)
 
 -- over the numbers of a list of links, with any others after them, they are the lines of the rules
-pub links-lines : (ls : List Link) (f t w : List ℕ)
+pub links_lines : (ls : List Link) (f t w : List ℕ)
     → lines_of (map (λ (l : Link). l.start) ls ++ f) (map (λ (l : Link). l.end) ls ++ t)
-    (map (λ (l : Link). why-number l.why) ls ++ w) (length ls)
-    ≡ link-lines ls
-unfolding lines_of link-lines
-links-lines [] f t w = refl
-links-lines (l ∷ ls) f t w =
-    lines_cons _ _ _ l.start l.end (why-number l.why) (length ls)
-    ∙ rw (links-lines ls f t w) (link-line l (link-lines ls))
+    (map (λ (l : Link). why_number l.why) ls ++ w) (length ls)
+    ≡ link_lines ls
+unfolding lines_of link_lines
+links_lines [] f t w = refl
+links_lines (l ∷ ls) f t w =
+    lines_cons _ _ _ l.start l.end (why_number l.why) (length ls)
+    ∙ rw (links_lines ls f t w) (link_line l (link_lines ls))

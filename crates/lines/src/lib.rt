@@ -1,14 +1,14 @@
 // The lines of links, put into a lent buffer of bytes: from, to and why of each.
 ghost use Rattle.std.specs.Prelude.{◌≤◌, length};
-ghost use Rattle.buffer.specs.Put.{Text-room, Written};
-ghost use Rattle.lines.specs.Lines.{why-text, line, lines_of};
+ghost use Rattle.buffer.specs.Put.{TextRoom, Written};
+ghost use Rattle.lines.specs.Lines.{why_text, line, lines_of};
 
 use buffer::{put_bytes, put_labelled, put_number};
 
 // Puts the word of a why, by its number: 0 ring, 1 chain, 2 back.
 fn put_why(out: &mut [u8], at: usize, why: u16) -> usize
-    requires { Text-room out.old at (why-text why) }
-    ensures { Written out.old at (why-text why) result out.new }
+    requires { TextRoom out.old at (why_text why) }
+    ensures { Written out.old at (why_text why) result out.new }
 {
     match why {
         0 => put_bytes(out, at, b" ring\n"),
@@ -19,7 +19,7 @@ fn put_why(out: &mut [u8], at: usize, why: u16) -> usize
 
 // Puts the line of a link: from, to, why.
 fn put_link(out: &mut [u8], at: usize, from: usize, to: usize, why: u16) -> usize
-    requires { Text-room out.old at (line from to why) }
+    requires { TextRoom out.old at (line from to why) }
     ensures { Written out.old at (line from to why) result out.new }
 {
     let a = put_number(out, at, from);
@@ -37,7 +37,7 @@ pub fn put_lines(
     count: usize,
 ) -> usize
     requires count_in_bounds { (count ≤ length from.now) × ((count ≤ length to.now) × (count ≤ length why.now)) }
-    requires text_room { Text-room out.old at (lines_of from.now to.now why.now count) }
+    requires text_room { TextRoom out.old at (lines_of from.now to.now why.now count) }
     ensures { Written out.old at
         (lines_of from.now to.now why.now count) result out.new }
 {

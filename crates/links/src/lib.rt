@@ -1,7 +1,7 @@
 // The links of an ordering, put into lent work memory as three lists: starts, ends and whys. The ordering's lists
 // stand there too, and the chain's stations are put there on the way.
-ghost use Rattle.links.specs.Stores.{Joinable, Links-joined};
-ghost use Rattle.links.specs.Linking.{Linkable, Links-put};
+ghost use Rattle.links.specs.Stores.{Joinable, LinksJoined};
+ghost use Rattle.links.specs.Linking.{Linkable, LinksPut};
 
 use memory::{copy, fill};
 use stations::{Counts, one_of, put_stations};
@@ -10,7 +10,7 @@ use workmap::{LinksAt, Side};
 // Puts n links of one why behind the first `at` links, from the elements from place `a` on to those from place `b` on.
 fn join(work: &mut [u16], p: LinksAt, a: usize, b: usize, n: usize, reason: u16, at: usize)
     requires { Joinable work.old p a b n at }
-    ensures { Links-joined work.old work.new p a b n reason at }
+    ensures { LinksJoined work.old work.new p a b n reason at }
 {
     copy(work, a, n, p.from + at);
     copy(work, b, n, p.to + at);
@@ -21,7 +21,7 @@ fn join(work: &mut [u16], p: LinksAt, a: usize, b: usize, n: usize, reason: u16,
 // links back.
 pub fn put_links(work: &mut [u16], n: Counts, p: Side) -> usize
     requires { Linkable work.old n p }
-    ensures { Links-put work.old work.new n p result }
+    ensures { LinksPut work.old work.new n p result }
 {
     let stations = put_stations(work, n, p);
     let rings = n.pairs - one_of(n.pairs);

@@ -1,6 +1,6 @@
 -- The turns of the naming: the zone v gets the lowest zone with its root, which is the one that is noted for the
 -- root, or v itself where none is.
---   naming-none, naming-more   the start, and a turn;   first_one   the lowest zone of a root is one zone
+--   naming_none, naming_more   the start, and a turn;   first_one   the lowest zone of a root is one zone
 -- Assumes nothing.
 use mathlib.Core.Path.{◌≡◌, sym, ap, ◌∙◌}
 use mathlib.Core.Logic.{◌⊎◌, inl, inr, ◌≢◌}
@@ -17,9 +17,9 @@ first_one {a = a} {b = b} f g e = elim (below? a b) [
 ]
 
 -- No zone has a name, and nothing is noted.
-pub naming-none : (root low names : ℕ → ℕ) {zones : ℕ} → ((r : ℕ) → r < zones → low r ≡ 0)
+pub naming_none : (root low names : ℕ → ℕ) {zones : ℕ} → ((r : ℕ) → r < zones → low r ≡ 0)
     → Naming root low names zones 0
-naming-none root low names clear = record {
+naming_none root low names clear = record {
   known = λ r x l e. absurd (omega (arith, clear r l));
   unknown = λ r t l e h y. omega arith;
   named = λ u l. absurd (omega arith);
@@ -29,7 +29,7 @@ naming-none root low names clear = record {
 module _ {root low : ℕ → ℕ} (low' : ℕ → ℕ) {names : ℕ → ℕ} (names' : ℕ → ℕ) {zones v r x : ℕ}
     (N : Naming root low names zones v) (is : root v ≡ r + 1) (zone : r < zones)
     (put : names' v ≡ x) (put_other : (u : ℕ) → u < v → names' u ≡ names u)
-    (noted : low' r ≡ x + 1) (Noted-other : (s : ℕ) → s < zones → s ≢ r → low' s ≡ low s)
+    (noted : low' r ≡ x + 1) (NotedOther : (s : ℕ) → s < zones → s ≢ r → low' s ≡ low s)
     (from : (low r ≡ x + 1) ⊎ ((low r ≡ 0) × (x ≡ v))) where
   -- x is the lowest with root number r + 1.
   lowest : (root x ≡ r + 1) × ((x < v + 1) × ((t : ℕ) → t < x → root t ≡ r + 1 → ⊥))
@@ -39,40 +39,40 @@ module _ {root low : ℕ → ℕ} (low' : ℕ → ℕ) {names : ℕ → ℕ} (na
   ]
 
   -- What is noted is the lowest of its root.
-  known-now : (s y : ℕ) → s < zones → low' s ≡ y + 1
+  known_now : (s y : ℕ) → s < zones → low' s ≡ y + 1
       → (root y ≡ s + 1) × ((y < v + 1) × ((t : ℕ) → t < y → root t ≡ s + 1 → ⊥))
-  known-now s y l e = elim (same? s r) [
+  known_now s y l e = elim (same? s r) [
     | inl q ↦ let z : y ≡ x = omega (arith, noted, ap low' q, e) in rw (z, q) lowest
     | inr q ↦
-        let k = N.known s y l (sym (Noted-other s l q) ∙ e) in
+        let k = N.known s y l (sym (NotedOther s l q) ∙ e) in
         (k.0, (omega (arith, k.1.0), k.1.1))
   ]
 
   -- A root for which nothing is noted was not met.
-  unknown-now : (s t : ℕ) → s < zones → low' s ≡ 0 → t < v + 1 → root t ≡ s + 1 → ⊥
-  unknown-now s t l e h y = elim (same? s r) [
+  unknown_now : (s t : ℕ) → s < zones → low' s ≡ 0 → t < v + 1 → root t ≡ s + 1 → ⊥
+  unknown_now s t l e h y = elim (same? s r) [
     | inl q ↦ omega (arith, noted, ap low' q, e)
     | inr q ↦ elim (same? t v) [
       | inl b ↦ q (omega (arith, is, ap root b, y))
-      | inr b ↦ N.unknown s t l (sym (Noted-other s l q) ∙ e) (omega arith) y
+      | inr b ↦ N.unknown s t l (sym (NotedOther s l q) ∙ e) (omega arith) y
     ]
   ]
 
   -- The name of v is the lowest zone with its root.
-  v-named : First root v x
-  v-named = record {
+  v_named : First root v x
+  v_named = record {
     low = omega (arith, lowest.1.0);
     same = lowest.0 ∙ sym is;
     least = λ t h y. lowest.1.1 t h (y ∙ is);
   }
 
   -- Names are the lowest zones of their roots.
-  named-now : (u : ℕ) → u < v + 1 → First root u (names' u)
-  named-now u l = elim (same? u v) [
-    | inl q ↦ rw (q, put) v-named
+  named_now : (u : ℕ) → u < v + 1 → First root u (names' u)
+  named_now u l = elim (same? u v) [
+    | inl q ↦ rw (q, put) v_named
     | inr q ↦ rw (put_other u (omega arith)) (N.named u (omega arith))
   ]
 
   -- The zone v has its name.
-  pub naming-more : Naming root low' names' zones (v + 1)
-  naming-more = record { known = known-now; unknown = unknown-now; named = named-now }
+  pub naming_more : Naming root low' names' zones (v + 1)
+  naming_more = record { known = known_now; unknown = unknown_now; named = named_now }

@@ -3,12 +3,12 @@
 // than itself.
 //     names, low, roots   where the names, the notes and the root numbers stand, of `zones` elements each
 ghost use Rattle.std.specs.Prelude.{◌<◌, length};
-ghost use Rattle.naming.specs.Names.{Root-noted, Zones-nameable, Zones-named};
+ghost use Rattle.naming.specs.Names.{RootNoted, ZonesNameable, ZonesNamed};
 
 // The zone that is noted at `at`; where none is, v, which is noted then.
 fn note(work: &mut [u16], at: usize, v: usize) -> u16
     requires { (at < length work.old) × (v < 1024) }
-    ensures { Root-noted work.old work.new at v result }
+    ensures { RootNoted work.old work.new at v result }
 {
     let x = work[at];
     if x != 0 {
@@ -20,8 +20,8 @@ fn note(work: &mut [u16], at: usize, v: usize) -> u16
 
 // Every zone's name, from `names` on. Nothing is noted at the start.
 pub fn name_zones(work: &mut [u16], zones: usize, names: usize, low: usize, roots: usize)
-    requires { Zones-nameable work.old zones names low roots }
-    ensures { Zones-named work.old work.new zones names low roots zones }
+    requires { ZonesNameable work.old zones names low roots }
+    ensures { ZonesNamed work.old work.new zones names low roots zones }
 {
     let mut v = 0;
     while v < zones {

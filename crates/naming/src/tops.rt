@@ -1,12 +1,12 @@
 // The names of all components, in the queue's order, in lent work memory: a zone is a name where it is its own name.
 //     tops, names, queue   where the list of names, the names and the queue stand, of `zones` elements each
 ghost use Rattle.std.specs.Prelude.{◌<◌};
-ghost use Rattle.naming.specs.Tops.{Top-picked, Pickable, Tops-listable, Tops-listed};
+ghost use Rattle.naming.specs.Tops.{TopPicked, Pickable, TopsListable, TopsListed};
 
 // Puts the zone at `at` into the list at `to` where it is its own name. Answers how many were put.
 fn pick(work: &mut [u16], names: usize, at: usize, to: usize) -> usize
     requires { Pickable work.old names at to }
-    ensures { Top-picked work.old work.new names at to result }
+    ensures { TopPicked work.old work.new names at to result }
 {
     let q = work[at];
     let n = names + memory::wide(q);
@@ -19,8 +19,8 @@ fn pick(work: &mut [u16], names: usize, at: usize, to: usize) -> usize
 
 // Lists the names of all components, from `tops` on. Answers how many there are.
 pub fn list_names(work: &mut [u16], zones: usize, tops: usize, names: usize, queue: usize) -> usize
-    requires { Tops-listable work.old zones tops names queue }
-    ensures { Tops-listed work.old work.new zones tops names queue zones result }
+    requires { TopsListable work.old zones tops names queue }
+    ensures { TopsListed work.old work.new zones tops names queue zones result }
 {
     let mut m = 0;
     let mut i = 0;

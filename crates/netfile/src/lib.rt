@@ -2,8 +2,8 @@
 //   read     a file into two lent lists
 //   write    a network into a lent list of bytes
 // The parts are crates of their own: the two counts, an arc, the passes over all arcs, and the bytes.
-ghost use Rattle.rules.specs.Answers.{read_told, write-told};
-ghost use Rattle.rules.specs.Promises.{Read-promise, Write-promise};
+ghost use Rattle.rules.specs.Answers.{read_told, write_told};
+ghost use Rattle.rules.specs.Promises.{ReadPromise, WritePromise};
 
 use filebody::body;
 use filebytes::{arcs_length, write_file};
@@ -15,7 +15,7 @@ use rules::{ReadAnswer, WriteAnswer};
 
 // Reading a network file into two lent lists: the two counts, or the first trouble from left to right.
 pub fn read(file: &[u8], tails: &mut [u16], heads: &mut [u16]) -> ReadAnswer
-    ensures { Read-promise file.now tails.old heads.old
+    ensures { ReadPromise file.now tails.old heads.old
         tails.new heads.new (read_told result) }
 {
     match zone_count(file) {
@@ -42,8 +42,8 @@ pub fn write(
     gone: &[u16],
     file: &mut [u8],
 ) -> WriteAnswer
-    ensures { Write-promise zones tails.now heads.now gone.now
-        file.old file.new (write-told result) }
+    ensures { WritePromise zones tails.now heads.now gone.now
+        file.old file.new (write_told result) }
 {
     let taken = intake::network(zones, tails, heads, gone);
     let found = taken.found;

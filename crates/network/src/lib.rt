@@ -1,7 +1,7 @@
 // STRONG and REACH: whether a network is strong, and whether a zone reaches another. The tests come first, then the
 // question is answered in the lent work memory.
-ghost use Rattle.rules.specs.Answers.{strong-told, reach-told};
-ghost use Rattle.rules.specs.Promises.{Strong-promise, Reach-promise};
+ghost use Rattle.rules.specs.Answers.{strong_told, reach_told};
+ghost use Rattle.rules.specs.Promises.{StrongPromise, ReachPromise};
 
 use probes::Tested;
 use reaching::reached;
@@ -17,8 +17,8 @@ pub fn strong(
     gone: &[u16],
     work: &mut [u16],
 ) -> StrongAnswer
-    ensures { Strong-promise zones tails.now heads.now gone.now
-        work.old work.new (strong-told result) }
+    ensures { StrongPromise zones tails.now heads.now gone.now
+        work.old work.new (strong_told result) }
 {
     let t = admission::strong(zones, tails, heads, gone, work);
     if let Tested::Refused(trouble) = t {
@@ -39,8 +39,8 @@ pub fn reach(
     to: usize,
     work: &mut [u16],
 ) -> ReachAnswer
-    ensures { Reach-promise zones tails.now heads.now gone.now from to
-        work.old work.new (reach-told result) }
+    ensures { ReachPromise zones tails.now heads.now gone.now from to
+        work.old work.new (reach_told result) }
 {
     let t = admission::reach(zones, tails, heads, gone, from, to, work);
     if let Tested::Refused(trouble) = t {

@@ -1,7 +1,7 @@
 -- The pairing of plain lists, one source after the other.
---   lone-more, pair-more    a source that stays unpaired, or is paired, goes from the sources left to what is made
---   pairing-done            with no source left, what is made is the ordering
---   firsts_more, seconds-more, firsts-long, seconds-long   the sources and the sinks of the pairs
+--   lone_more, pair_more    a source that stays unpaired, or is paired, goes from the sources left to what is made
+--   pairing_done            with no source left, what is made is the ordering
+--   firsts_more, seconds_more, firsts_long, seconds_long   the sources and the sinks of the pairs
 -- `onto cs ls` puts what is made before an ordering. Assumes nothing.
 use mathlib.Core.Path.{◌≡◌, refl, ap, ◌∙◌}
 use mathlib.Core.Bool.{Bool}
@@ -11,7 +11,7 @@ use Prim.Native.Nat.{ℕ, ◌+◌, ◌≤◌, ◌<◌}
 use native.Mathlib.Numerals.{add-one}
 use lib.ListN.{length, get_or, drop, length-map, drop_of_length-le}
 use lib.Seq.{drop-cons}
-use Rattle.rules.specs.Plan.{Couple, pick, with-lone, with_pair, pairing}
+use Rattle.rules.specs.Plan.{Couple, pick, with_lone, with_pair, pairing}
 use Rattle.pairing.specs.Pairs.{onto, firsts, seconds}
 
 -- the pair of x and z
@@ -20,16 +20,16 @@ couple x z = record { v = x; w = z }
 
 module _ (r : ℕ → ℕ → Bool) where
   -- a source that reaches none of the sinks left stays unpaired
-  pairing-lone : (x : ℕ) (vs ws : List ℕ) → pick (r x) ws ≡ none →
-      pairing r (x ∷ vs) ws ≡ with-lone x (pairing r vs ws)
+  pairing_lone : (x : ℕ) (vs ws : List ℕ) → pick (r x) ws ≡ none →
+      pairing r (x ∷ vs) ws ≡ with_lone x (pairing r vs ws)
   unfolding pairing
-  pairing-lone x vs ws e = rw (e, pairing)
+  pairing_lone x vs ws e = rw (e, pairing)
 
   -- a source is paired with the sink that it picks
-  pairing-pair : (x z : ℕ) (vs ws rest : List ℕ) → pick (r x) ws ≡ some (record { sink = z; rest = rest }) →
+  pairing_pair : (x z : ℕ) (vs ws rest : List ℕ) → pick (r x) ws ≡ some (record { sink = z; rest = rest }) →
       pairing r (x ∷ vs) ws ≡ with_pair x z (pairing r vs rest)
   unfolding pairing
-  pairing-pair x z vs ws rest e = rw (e, pairing)
+  pairing_pair x z vs ws rest e = rw (e, pairing)
 
   module _ (cs : List Couple) (ls vs ws : List ℕ) (i x : ℕ) (inside : i < length vs) (is : x ≡ get_or vs i 0) where
     -- the sources left begin with the source i
@@ -37,27 +37,27 @@ module _ (r : ℕ → ℕ → Bool) where
     sources_next = rw (is, add-one) (drop-cons vs i 0 inside)
 
     -- a source that stays unpaired goes behind the lone sources
-    pub lone-more : pick (r x) ws ≡ none →
+    pub lone_more : pick (r x) ws ≡ none →
         onto cs ls (pairing r (drop i vs) ws) ≡ onto cs (ls ++ (x ∷ [])) (pairing r (drop (i + 1) vs) ws)
-    lone-more e =
+    lone_more e =
         ap (λ (us : List ℕ). onto cs ls (pairing r us ws)) sources_next
-        ∙ ap (onto cs ls) (pairing-lone x (drop (i + 1) vs) ws e)
-        ∙ rw (append_assoc ls (x ∷ []) (pairing r (drop (i + 1) vs) ws).lone-sources)
+        ∙ ap (onto cs ls) (pairing_lone x (drop (i + 1) vs) ws e)
+        ∙ rw (append_assoc ls (x ∷ []) (pairing r (drop (i + 1) vs) ws).lone_sources)
 
     -- a source that is paired goes behind the pairs, with its sink
-    pub pair-more : (z : ℕ) (rest : List ℕ) → pick (r x) ws ≡ some (record { sink = z; rest = rest }) →
+    pub pair_more : (z : ℕ) (rest : List ℕ) → pick (r x) ws ≡ some (record { sink = z; rest = rest }) →
         onto cs ls (pairing r (drop i vs) ws)
         ≡ onto (cs ++ (couple x z ∷ [])) ls (pairing r (drop (i + 1) vs) rest)
-    pair-more z rest e =
+    pair_more z rest e =
         ap (λ (us : List ℕ). onto cs ls (pairing r us ws)) sources_next
-        ∙ ap (onto cs ls) (pairing-pair x z (drop (i + 1) vs) ws rest e)
+        ∙ ap (onto cs ls) (pairing_pair x z (drop (i + 1) vs) ws rest e)
         ∙ rw (append_assoc cs (couple x z ∷ []) (pairing r (drop (i + 1) vs) rest).pairs)
 
   -- with no source left, what is made is the ordering
-  pub pairing-done : (cs : List Couple) (ls vs ws : List ℕ) (i : ℕ) → length vs ≤ i →
-      onto cs ls (pairing r (drop i vs) ws) ≡ record { pairs = cs; lone-sources = ls; lone-sinks = ws }
+  pub pairing_done : (cs : List Couple) (ls vs ws : List ℕ) (i : ℕ) → length vs ≤ i →
+      onto cs ls (pairing r (drop i vs) ws) ≡ record { pairs = cs; lone_sources = ls; lone_sinks = ws }
   unfolding pairing
-  pairing-done cs ls vs ws i h = rw (drop_of_length-le vs h, append-nil cs, append-nil ls)
+  pairing_done cs ls vs ws i h = rw (drop_of_length-le vs h, append-nil cs, append-nil ls)
 
 -- the sources of pairs with one more
 pub firsts_more : (cs : List Couple) (x z : ℕ) → firsts (cs ++ (couple x z ∷ [])) ≡ firsts cs ++ (x ∷ [])
@@ -65,14 +65,14 @@ firsts_more [] x z = refl
 firsts_more (c ∷ cs) x z = ap (λ (l : List ℕ). c.v ∷ l) (firsts_more cs x z)
 
 -- the sinks of pairs with one more
-pub seconds-more : (cs : List Couple) (x z : ℕ) → seconds (cs ++ (couple x z ∷ [])) ≡ seconds cs ++ (z ∷ [])
-seconds-more [] x z = refl
-seconds-more (c ∷ cs) x z = ap (λ (l : List ℕ). c.w ∷ l) (seconds-more cs x z)
+pub seconds_more : (cs : List Couple) (x z : ℕ) → seconds (cs ++ (couple x z ∷ [])) ≡ seconds cs ++ (z ∷ [])
+seconds_more [] x z = refl
+seconds_more (c ∷ cs) x z = ap (λ (l : List ℕ). c.w ∷ l) (seconds_more cs x z)
 
 -- there are as many sources as pairs
-pub firsts-long : (cs : List Couple) → length (firsts cs) ≡ length cs
-firsts-long cs = length-map cs (λ (c : Couple). c.v)
+pub firsts_long : (cs : List Couple) → length (firsts cs) ≡ length cs
+firsts_long cs = length-map cs (λ (c : Couple). c.v)
 
 -- there are as many sinks as pairs
-pub seconds-long : (cs : List Couple) → length (seconds cs) ≡ length cs
-seconds-long cs = length-map cs (λ (c : Couple). c.w)
+pub seconds_long : (cs : List Couple) → length (seconds cs) ≡ length cs
+seconds_long cs = length-map cs (λ (c : Couple). c.w)

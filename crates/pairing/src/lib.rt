@@ -1,7 +1,7 @@
 // Points 1 and 2 of the plan rule, in lent work memory: each source in turn takes the lowest sink that it reaches and
 // that is still unpaired, or stays unpaired. One search a source.
 ghost use Rattle.std.specs.Prelude.{List, ℕ, ◌+◌};
-ghost use Rattle.pairing.specs.Pairs.{Pairable, Course, Pairing-underway, Paired};
+ghost use Rattle.pairing.specs.Pairs.{Pairable, Course, PairingUnderway, Paired};
 
 use arranged::Found;
 use memory::wide;
@@ -11,7 +11,7 @@ use workmap::Side;
 // The turn of the source i of the s sources, with p pairs made of them and the t sinks: source and sink go to the
 // pairs, or the source to those that stay unpaired. Answers the number of pairs.
 fn settle(work: &mut [u16], at: Side, s: usize, t: usize, i: usize, p: usize) -> usize
-    requires { Pairing-underway work.old at s t i p }
+    requires { PairingUnderway work.old at s t i p }
     ensures { (v : List ℕ) → Course v work.old at s t i p →
         Course v work.new at s t (i + 1) result }
 {

@@ -2,9 +2,9 @@
 // the links, and the line of a refusal. Each function puts one text from a place on, and answers with the place where
 // it stops; every other byte of the buffer stays as it came.
 ghost use Rattle.std.specs.Prelude.{◌+◌, ◌≤◌, length};
-ghost use Rattle.rules.specs.Text.{refusal-line};
-ghost use Rattle.buffer.specs.Put.{Text-room, Written};
-ghost use Rattle.phrases.specs.Phrases.{head-text, refusal-text};
+ghost use Rattle.rules.specs.Text.{refusal_line};
+ghost use Rattle.buffer.specs.Put.{TextRoom, Written};
+ghost use Rattle.phrases.specs.Phrases.{head_text, refusal_text};
 
 use buffer::{put_bytes, put_labelled, put_two};
 use rules::{Trouble, trouble_number};
@@ -23,8 +23,8 @@ pub struct Figures {
 
 // Puts the lines above the links.
 pub fn put_head(out: &mut [u8], at: usize, f: Figures) -> usize
-    requires { Text-room out.old at (head-text f) }
-    ensures { Written out.old at (head-text f) result out.new }
+    requires { TextRoom out.old at (head_text f) }
+    ensures { Written out.old at (head_text f) result out.new }
 {
     let a = put_two(out, at, b"zones ", f.zones, b" arcs ", f.arcs);
     let b = put_two(out, a, b"\nsources ", f.sources, b" sinks ", f.sinks);
@@ -36,7 +36,7 @@ pub fn put_head(out: &mut [u8], at: usize, f: Figures) -> usize
 // Puts the one line of a refusal.
 fn say_refusal(out: &mut [u8], at: usize, number: usize, place: usize) -> usize
     requires { at + 60 ≤ length out.old }
-    ensures { Written out.old at (refusal-text number place) result out.new }
+    ensures { Written out.old at (refusal_text number place) result out.new }
 {
     let end = put_two(out, at, b"refused ", number, b" at ", place);
     put_bytes(out, end, b"\n")
@@ -45,7 +45,7 @@ fn say_refusal(out: &mut [u8], at: usize, number: usize, place: usize) -> usize
 // Puts the line of a refusal, and answers its length.
 pub fn refuse(t: Trouble, out: &mut [u8]) -> usize
     requires { 60 ≤ length out.old }
-    ensures { Written out.old 0 (refusal-line t) result out.new }
+    ensures { Written out.old 0 (refusal_line t) result out.new }
 {
     let kind = t.kind;
     let place = t.place;

@@ -1,8 +1,8 @@
 -- What PLAN gives back, from what its tests say and from what stands in the work memory.
 --   Plannable           the input passes the tests, and each lent list is as long as asked
---   tests-plannable     no trouble: the input is so
---   plan-refused        a trouble is refused, and changes nothing
---   plan-done           the plan is copied out, and the work memory cleared
+--   tests_plannable     no trouble: the input is so
+--   plan_refused        a trouble is refused, and changes nothing
+--   plan_done           the plan is copied out, and the work memory cleared
 -- Assumes nothing.
 use mathlib.Core.Path.{◌≡◌, refl, sym, ap, ◌∙◌}
 use mathlib.Core.List.{List, [], ◌∷◌, map}
@@ -15,45 +15,45 @@ use Rattle.rules.specs.declared.Trouble.{Trouble}
 use Rattle.rules.specs.declared.PlanAnswer.{PlanAnswer}
 use Rattle.rules.specs.Lists.{over, cleared}
 use Rattle.rules.specs.Network.{Network}
-use Rattle.rules.specs.Plan.{Link, why-number, plan}
-use Rattle.rules.specs.Answers.{plan-told}
-use Rattle.rules.specs.Calls.{network-tests, room-test, asked-work, handed-with, plan-trouble}
-use Rattle.rules.specs.Promises.{Plan-promise}
+use Rattle.rules.specs.Plan.{Link, why_number, plan}
+use Rattle.rules.specs.Answers.{plan_told}
+use Rattle.rules.specs.Calls.{network_tests, room_test, asked_work, handed_with, plan_trouble}
+use Rattle.rules.specs.Promises.{PlanPromise}
 use Rattle.memory.specs.Regions.{part, Holds}
-use Rattle.theory.proofs.Files.Troubles.{passes, both-pass}
+use Rattle.theory.proofs.Files.Troubles.{passes, both_pass}
 use Rattle.workmap.specs.declared.Map.{Map}
 use Rattle.workmap.specs.Map.{map_of}
-use Rattle.memory.proofs.Cleared.{cleared-back}
-use Rattle.withdrawn.specs.Withdrawn.{Ready-with}
-use Rattle.withdrawn.proofs.Readying.{tests-ready}
+use Rattle.memory.proofs.Cleared.{cleared_back}
+use Rattle.withdrawn.specs.Withdrawn.{ReadyWith}
+use Rattle.withdrawn.proofs.Readying.{tests_ready}
 use Rattle.figures.specs.declared.Layout.{Layout}
 use Rattle.figures.specs.Figures.{Figures, Carried}
-use Rattle.laying.specs.Layout.{Laid_out}
+use Rattle.laying.specs.Layout.{LaidOut}
 
 -- the input passes the tests, and each lent list is as long as asked
 pub record Plannable (n : ℕ) (ts hs gone from to why w : List ℕ) : Type 0 where
-  pub ready : Ready-with (map_of n (length ts)) ts hs gone w
-  pub from-room : n ≤ length from
+  pub ready : ReadyWith (map_of n (length ts)) ts hs gone w
+  pub from_room : n ≤ length from
   pub to_room : n ≤ length to
-  pub why-room : n ≤ length why
+  pub why_room : n ≤ length why
 
 -- as many elements as the list has are the list that stands there
-part-is : (f : Link → ℕ) (ls : List Link) (w : List ℕ) (at m : ℕ) → m ≡ length ls → Holds w at (map f ls) →
+part_is : (f : Link → ℕ) (ls : List Link) (w : List ℕ) (at m : ℕ) → m ≡ length ls → Holds w at (map f ls) →
     part w at m ≡ map f ls
-part-is f ls w at m e h = ap (λ (k : ℕ). part w at k) (e ∙ sym (length-map ls f)) ∙ h
+part_is f ls w at m e h = ap (λ (k : ℕ). part w at k) (e ∙ sym (length-map ls f)) ∙ h
 
 module _ (n : ℕ) (ts hs gone from to why w : List ℕ) where
   -- without a trouble the input passes the tests
-  pub tests-plannable : plan-trouble n ts hs gone from to why w ≡ none → Plannable n ts hs gone from to why w
-  unfolding plan-trouble
-  tests-plannable e =
-      let asked = asked-work n (length ts) in
+  pub tests_plannable : plan_trouble n ts hs gone from to why w ≡ none → Plannable n ts hs gone from to why w
+  unfolding plan_trouble
+  tests_plannable e =
+      let asked = asked_work n (length ts) in
       let p =
-      both-pass (network-tests n ts hs gone)
-      (room-test asked (length w)
-      ∷ room-test n (length from)
-      ∷ room-test n (length to)
-      ∷ room-test n (length why)
+      both_pass (network_tests n ts hs gone)
+      (room_test asked (length w)
+      ∷ room_test n (length from)
+      ∷ room_test n (length to)
+      ∷ room_test n (length why)
       ∷ [])
       e
       in
@@ -62,54 +62,54 @@ module _ (n : ℕ) (ts hs gone from to why w : List ℕ) where
       let c = passes (ltb (length to) n) _ _ b.1 in
       let d = passes (ltb (length why) n) _ _ c.1 in
       record {
-        ready = tests-ready n ts hs gone w p.0 a.0;
-        from-room = ltb-false (length from) n b.0;
+        ready = tests_ready n ts hs gone w p.0 a.0;
+        from_room = ltb-false (length from) n b.0;
         to_room = ltb-false (length to) n c.0;
-        why-room = ltb-false (length why) n d.0;
+        why_room = ltb-false (length why) n d.0;
       }
 
   -- PLAN refuses
-  pub plan-refused : (t : Trouble) → plan-trouble n ts hs gone from to why w ≡ some t →
-      Plan-promise n ts hs gone from to why w from to why w (plan-told (PlanAnswer.Refused t))
-  plan-refused t e =
+  pub plan_refused : (t : Trouble) → plan_trouble n ts hs gone from to why w ≡ some t →
+      PlanPromise n ts hs gone from to why w from to why w (plan_told (PlanAnswer.Refused t))
+  plan_refused t e =
       record {
         told_is = rw e refl;
-        from-left = rw e refl;
-        to-left = rw e refl;
-        why-left = rw e refl;
-        work-left = rw e refl;
+        from_left = rw e refl;
+        to_left = rw e refl;
+        why_left = rw e refl;
+        work_left = rw e refl;
       }
 
   -- PLAN answers
-  pub plan-done : (m : Map) (w₁ from' to' why' w' : List ℕ) (l : Layout) (r : PlanAnswer) →
-      m ≡ map_of n (length ts) → plan-trouble n ts hs gone from to why w ≡ none →
-      Laid_out w w₁ m (handed-with m.zones ts hs gone) l →
+  pub plan_done : (m : Map) (w₁ from' to' why' w' : List ℕ) (l : Layout) (r : PlanAnswer) →
+      m ≡ map_of n (length ts) → plan_trouble n ts hs gone from to why w ≡ none →
+      LaidOut w w₁ m (handed_with m.zones ts hs gone) l →
       ((N : Network) → Figures N l → Carried N r) → from' ≡ over (part w₁ m.links.from l.need) from →
       to' ≡ over (part w₁ m.links.to l.need) to → why' ≡ over (part w₁ m.links.why l.need) why →
-      w' ≡ cleared m.asked w₁ → Plan-promise n ts hs gone from to why w from' to' why' w' (plan-told r)
-  plan-done m w₁ from' to' why' w' l r made e D says f t y c =
-      let L : Laid_out w w₁ (map_of n (length ts)) (handed-with n ts hs gone) l = rw made at D in
-      let ls : List Link = plan (handed-with n ts hs gone) in
-      let asked : m.asked ≡ asked-work n (length ts) = ap (λ (x : Map). x.asked) made in
+      w' ≡ cleared m.asked w₁ → PlanPromise n ts hs gone from to why w from' to' why' w' (plan_told r)
+  plan_done m w₁ from' to' why' w' l r made e D says f t y c =
+      let L : LaidOut w w₁ (map_of n (length ts)) (handed_with n ts hs gone) l = rw made at D in
+      let ls : List Link = plan (handed_with n ts hs gone) in
+      let asked : m.asked ≡ asked_work n (length ts) = ap (λ (x : Map). x.asked) made in
       record {
-        told_is = rw e (says (handed-with n ts hs gone) L.figures);
-        from-left =
+        told_is = rw e (says (handed_with n ts hs gone) L.figures);
+        from_left =
             rw e
             (f
             ∙ ap (λ (xs : List ℕ). over xs from)
-            (part-is (λ (x : Link). x.start) ls w₁ m.links.from l.need L.links-are
-            (rw made L.columns.starts-held)));
-        to-left =
+            (part_is (λ (x : Link). x.start) ls w₁ m.links.from l.need L.links_are
+            (rw made L.columns.starts_held)));
+        to_left =
             rw e
             (t
             ∙ ap (λ (xs : List ℕ). over xs to)
-            (part-is (λ (x : Link). x.end) ls w₁ m.links.to l.need L.links-are
+            (part_is (λ (x : Link). x.end) ls w₁ m.links.to l.need L.links_are
             (rw made L.columns.ends_held)));
-        why-left =
+        why_left =
             rw e
             (y
             ∙ ap (λ (xs : List ℕ). over xs why)
-            (part-is (λ (x : Link). why-number x.why) ls w₁ m.links.why l.need L.links-are
-            (rw made L.columns.whys-held)));
-        work-left = rw e (rw asked at c ∙ cleared-back (asked-work n (length ts)) w w₁ L.beyond);
+            (part_is (λ (x : Link). why_number x.why) ls w₁ m.links.why l.need L.links_are
+            (rw made L.columns.whys_held)));
+        work_left = rw e (rw asked at c ∙ cleared_back (asked_work n (length ts)) w w₁ L.beyond);
       }

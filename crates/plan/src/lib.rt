@@ -1,7 +1,7 @@
 // PLAN: the smallest set of links that makes a network strong, in three lent lists. The plan is laid out in lent work
 // memory and then copied out.
-ghost use Rattle.rules.specs.Answers.{plan-told};
-ghost use Rattle.rules.specs.Promises.{Plan-promise};
+ghost use Rattle.rules.specs.Answers.{plan_told};
+ghost use Rattle.rules.specs.Promises.{PlanPromise};
 
 use figures::answer_of;
 use handout::hand_out;
@@ -22,9 +22,9 @@ pub fn plan(
     why: &mut [u16],
     work: &mut [u16],
 ) -> PlanAnswer
-    ensures { Plan-promise zones tails.now heads.now gone.now
+    ensures { PlanPromise zones tails.now heads.now gone.now
         from.old to.old why.old work.old from.new
-        to.new why.new work.new (plan-told result) }
+        to.new why.new work.new (plan_told result) }
 {
     let t = admission::plan(zones, tails, heads, gone, from, to, why, work);
     if let Tested::Refused(trouble) = t {

@@ -2,10 +2,10 @@
 // tests find, so that a call is tested by a chain of them (crates `intake` and `admission`). A new test is a line here.
 ghost use Rattle.std.specs.Prelude.{◌≡◌, [], ◌∷◌, ◌||◌};
 ghost use Rattle.rules.specs.Network.{◌⟶◌};
-ghost use Rattle.rules.specs.File.{zones-bad};
-ghost use Rattle.rules.specs.Calls.{test, arc-tests, question-tests, room-test};
+ghost use Rattle.rules.specs.File.{zones_bad};
+ghost use Rattle.rules.specs.Calls.{test, arc_tests, question_tests, room_test};
 ghost use Rattle.zoneset.specs.Held.{held};
-ghost use Rattle.probes.specs.Tested.{Found-by, Found-after};
+ghost use Rattle.probes.specs.Tested.{FoundBy, FoundAfter};
 
 use rules::{Trouble, TroubleKind};
 use zoneset::has;
@@ -19,7 +19,7 @@ pub enum Tested {
 
 // One test, after others: where it fails there is a trouble of this kind at this place.
 pub fn test(before: Tested, fails: bool, kind: TroubleKind, place: usize) -> Tested
-    ensures { Found-after before (test fails kind place ∷ []) result }
+    ensures { FoundAfter before (test fails kind place ∷ []) result }
 {
     if let Tested::Refused(t) = before {
         return Tested::Refused(t);
@@ -35,7 +35,7 @@ pub fn test(before: Tested, fails: bool, kind: TroubleKind, place: usize) -> Tes
 
 // Whether a zone count is out of its bounds.
 pub fn zones_bad(zones: usize) -> bool
-    ensures { result ≡ zones-bad zones }
+    ensures { result ≡ zones_bad zones }
 {
     if zones == 0 {
         return true;
@@ -55,7 +55,7 @@ fn either(gone: &[u64], a: usize, b: usize) -> bool
 
 // The tests of the arc of index `i`, with the withdrawn zones.
 pub fn arc(zones: usize, tail: u16, head: u16, gone: &[u64], i: usize) -> Tested
-    ensures { Found-by (arc-tests zones i (tail ⟶ head) (held gone.now)) result }
+    ensures { FoundBy (arc_tests zones i (tail ⟶ head) (held gone.now)) result }
 {
     let t = tail as usize;
     let h = head as usize;
@@ -76,7 +76,7 @@ pub fn question(
     from: usize,
     to: usize,
 ) -> Tested
-    ensures { Found-after before (question-tests zones arcs (held gone.now) from to) result }
+    ensures { FoundAfter before (question_tests zones arcs (held gone.now) from to) result }
 {
     let withdrawn = either(gone, from, to);
     let started = test(before, zones <= from, TroubleKind::Range, arcs);
@@ -86,7 +86,7 @@ pub fn question(
 
 // The test of a lent list's length.
 pub fn room(before: Tested, asked: usize, lent: usize) -> Tested
-    ensures { Found-after before (room-test asked lent ∷ []) result }
+    ensures { FoundAfter before (room_test asked lent ∷ []) result }
 {
     test(before, lent < asked, TroubleKind::Room, 0)
 }

@@ -9,8 +9,8 @@ use Rattle.workmap.specs.declared.Map.{Map}
 -- a network, a question about it and a memory that pass the tests
 pub record Askable (m : Map) (ts hs : List ℕ) (from to : ℕ) (w : List ℕ) : Type 0 where
   pub ready : Readyable m ts hs w
-  pub from-zone : from < m.zones
-  pub to-zone : to < m.zones
+  pub from_zone : from < m.zones
+  pub to_zone : to < m.zones
 
 -- the answer is the truth, and the asked part of the memory is zero
 pub record Answered (b truth : Bool) (asked : ℕ) (before after : List ℕ) : Type 0 where

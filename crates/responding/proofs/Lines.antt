@@ -16,25 +16,25 @@ use Rattle.rules.specs.Network.{Network}
 use Rattle.rules.specs.Components.{sources, sinks, alone}
 use Rattle.rules.specs.File.{Given}
 use Rattle.rules.specs.Text.{printed}
-use Rattle.rules.specs.Plan.{Link, why-number, link-starts, link-ends, link-whys, plan, plan-pairs, plan-need}
-use Rattle.rules.specs.Answers.{plan-told}
-use Rattle.rules.specs.Calls.{arcs-of, handed, network-tests, plan-trouble}
-use Rattle.rules.specs.Promises.{Plan-promise}
-use Rattle.theory.proofs.Ground.ArcLists.{arcs-length}
-use Rattle.theory.proofs.Ground.Ascending.{span-length}
-use Rattle.theory.proofs.Planning.PlanCount.{plan-length}
-use Rattle.theory.proofs.Files.Accepting.{Fine, fine-proper, fine-with, handed-none}
-use Rattle.theory.proofs.Files.Troubles.{both-pass}
-use Rattle.theory.proofs.Demands.Calls.{Link-lists, Plan-call}
-use Rattle.theory.proofs.Demands.Answers.{plan-done-when, plan-refused-when}
-use Rattle.theory.proofs.Demands.Plans.{plan-leaves}
-use Rattle.theory.proofs.Planning.Few.{need-few}
+use Rattle.rules.specs.Plan.{Link, why_number, link_starts, link_ends, link_whys, plan, plan_pairs, plan_need}
+use Rattle.rules.specs.Answers.{plan_told}
+use Rattle.rules.specs.Calls.{arcs_of, handed, network_tests, plan_trouble}
+use Rattle.rules.specs.Promises.{PlanPromise}
+use Rattle.theory.proofs.Ground.ArcLists.{arcs_length}
+use Rattle.theory.proofs.Ground.Ascending.{span_length}
+use Rattle.theory.proofs.Planning.PlanCount.{plan_length}
+use Rattle.theory.proofs.Files.Accepting.{Fine, fine_proper, fine_with, handed_none}
+use Rattle.theory.proofs.Files.Troubles.{both_pass}
+use Rattle.theory.proofs.Demands.Calls.{LinkLists, PlanCall}
+use Rattle.theory.proofs.Demands.Answers.{plan_done_when, plan_refused_when}
+use Rattle.theory.proofs.Demands.Plans.{plan_leaves}
+use Rattle.theory.proofs.Planning.Few.{need_few}
 use Rattle.buffer.specs.Put.{put, Written}
 use Rattle.lines.specs.Lines.{lines_of}
-use Rattle.text.specs.Texts.{plan-text, Putable, figures, answer-lines}
-use Rattle.text.proofs.TextLaws.{figures-of, plan-put}
+use Rattle.text.specs.Texts.{plan_text, Putable, figures, answer_lines}
+use Rattle.text.proofs.TextLaws.{figures_of, plan_put}
 use Rattle.io.specs.Counts.{IsPrefixLen}
-use Rattle.responding.specs.Buffers.{handed-lines, Responded}
+use Rattle.responding.specs.Buffers.{handed_lines, Responded}
 
 -- bytes put at the start of a buffer are its first bytes, and where they are those that are printed, all is done
 pub responded : {file out s after : List ℕ} {r : ℕ} → s ≡ printed file → Written out 0 s r after
@@ -58,54 +58,54 @@ column_fits f ls old e l =
     omega (arith, ap length e, length-append (map f ls) (drop (length (map f ls)) old), length-map ls f)
 
 module _ (n : ℕ) (ts hs starts ends whys work : List ℕ)
-    (e : plan-trouble n ts hs [] starts ends whys work ≡ none) where
+    (e : plan_trouble n ts hs [] starts ends whys work ≡ none) where
   -- the network handed in, with no zone withdrawn
   abbrev N : Network
   N = handed n ts hs
 
   -- it passes its own tests
-  network-fine : Fine n ts hs
-  unfolding plan-trouble
-  network-fine = (fine-with n ts hs [] (both-pass (network-tests n ts hs []) _ e).0).fine
+  network_fine : Fine n ts hs
+  unfolding plan_trouble
+  network_fine = (fine_with n ts hs [] (both_pass (network_tests n ts hs []) _ e).0).fine
 
   -- the plan has as many links as the answer says
-  links-are : length (plan N) ≡ plan-need N
-  links-are = plan-length (fine-proper n ts hs network-fine)
+  links_are : length (plan N) ≡ plan_need N
+  links_are = plan_length (fine_proper n ts hs network_fine)
 
   -- which are at most 1,024
-  need-most : plan-need N ≤ 1024
+  need_most : plan_need N ≤ 1024
   unfolding handed
-  need-most =
+  need_most =
       omega (
         arith,
-        need-few (handed n ts hs),
-        span-length 0 n,
-        network-fine.accepted.zones-most,
+        need_few (handed n ts hs),
+        span_length 0 n,
+        network_fine.accepted.zones_most,
       )
 
   -- the lines put over what PLAN leaves are those of the rules
   lines_are :
-      plan-text
-      (figures n (length ts) (length (sources N)) (length (sinks N)) (length (alone N)) (plan-pairs N) (plan-need N))
-      (lines_of (over (link-starts (plan N)) starts) (over (link-ends (plan N)) ends) (over (link-whys (plan N)) whys)
-      (plan-need N))
-      ≡ handed-lines n ts hs
+      plan_text
+      (figures n (length ts) (length (sources N)) (length (sinks N)) (length (alone N)) (plan_pairs N) (plan_need N))
+      (lines_of (over (link_starts (plan N)) starts) (over (link_ends (plan N)) ends) (over (link_whys (plan N)) whys)
+      (plan_need N))
+      ≡ handed_lines n ts hs
   unfolding handed
   lines_are =
-      let g : Given = record { zones = n; arcs = arcs-of ts hs } in
-      rw (sym (arcs-length ts hs network-fine.paired))
+      let g : Given = record { zones = n; arcs = arcs_of ts hs } in
+      rw (sym (arcs_length ts hs network_fine.paired))
       (ap
       (λ (k : ℕ).
-      plan-text (figures-of g)
-      (lines_of (over (link-starts (plan N)) starts) (over (link-ends (plan N)) ends) (over (link-whys (plan N)) whys)
+      plan_text (figures_of g)
+      (lines_of (over (link_starts (plan N)) starts) (over (link_ends (plan N)) ends) (over (link_whys (plan N)) whys)
       k))
-      (sym links-are)
-      ∙ plan-put g _ _ _)
+      (sym links_are)
+      ∙ plan_put g _ _ _)
 
   -- PLAN as it was called
   abbrev called : (a : PlanAnswer) {f' t' y' w' : List ℕ}
-      → Plan-promise n ts hs [] starts ends whys work f' t' y' w' (plan-told a)
-      → Plan-call (record { zones = n; tails = ts; heads = hs; gone = [] })
+      → PlanPromise n ts hs [] starts ends whys work f' t' y' w' (plan_told a)
+      → PlanCall (record { zones = n; tails = ts; heads = hs; gone = [] })
   called a {f'} {t'} {y'} {w'} k = record {
     lent = record { from = starts; to = ends; why = whys };
     left = record { from = f'; to = t'; why = y' };
@@ -117,36 +117,36 @@ module _ (n : ℕ) (ts hs starts ends whys work : List ℕ)
 
   -- PLAN's answer and what it leaves: they fit into 20,000 bytes, and what is put for them is the lines of the plan
   pub planned : (a : PlanAnswer) {f' t' y' w' : List ℕ} (out : List ℕ) → 20000 ≤ length out
-      → Plan-promise n ts hs [] starts ends whys work f' t' y' w' (plan-told a)
-      → Putable a f' t' y' out × (answer-lines n (length ts) a f' t' y' ≡ handed-lines n ts hs)
+      → PlanPromise n ts hs [] starts ends whys work f' t' y' w' (plan_told a)
+      → Putable a f' t' y' out × (answer_lines n (length ts) a f' t' y' ≡ handed_lines n ts hs)
   planned (PlanAnswer.Refused t) out l k =
-      let some-trouble : none ≡ some t = sym e ∙ (plan-refused-when (called (PlanAnswer.Refused t) k)).0 refl in
+      let some_trouble : none ≡ some t = sym e ∙ (plan_refused_when (called (PlanAnswer.Refused t) k)).0 refl in
       let never : ◌≡◌ {A = ℕ} 0 1 = cc in
       absurd (omega arith)
   planned (PlanAnswer.Done s t q p need) out l k =
       let c = called (PlanAnswer.Done s t q p need) k in
-      let same = handed-none n ts hs in
-      let counts = rw same at ((plan-done-when c).0 refl).1 in
-      let count : length (plan N) ≡ need = links-are ∙ sym counts.need-is in
-      let left = rw same at (plan-leaves c e) in
-      let starts-are = ap (λ (x : Link-lists). x.from) left in
-      let ends-are = ap (λ (x : Link-lists). x.to) left in
-      let whys-are = ap (λ (x : Link-lists). x.why) left in (
+      let same = handed_none n ts hs in
+      let counts = rw same at ((plan_done_when c).0 refl).1 in
+      let count : length (plan N) ≡ need = links_are ∙ sym counts.need_is in
+      let left = rw same at (plan_leaves c e) in
+      let starts_are = ap (λ (x : LinkLists). x.from) left in
+      let ends_are = ap (λ (x : LinkLists). x.to) left in
+      let whys_are = ap (λ (x : LinkLists). x.why) left in (
         record {
-          starts_fit = column_fits (λ (l : Link). l.start) (plan N) starts starts-are count;
-          ends-fit = column_fits (λ (l : Link). l.end) (plan N) ends ends-are count;
-          whys-fit = column_fits (λ (l : Link). why-number l.why) (plan N) whys whys-are count;
-          lines_fit = omega (arith, need-most, counts.need-is);
+          starts_fit = column_fits (λ (l : Link). l.start) (plan N) starts starts_are count;
+          ends_fit = column_fits (λ (l : Link). l.end) (plan N) ends ends_are count;
+          whys_fit = column_fits (λ (l : Link). why_number l.why) (plan N) whys whys_are count;
+          lines_fit = omega (arith, need_most, counts.need_is);
         },
         rw (
-          counts.sources-are,
-          counts.sinks-are,
-          counts.alone-are,
-          counts.pairs-are,
-          counts.need-is,
-          starts-are,
-          ends-are,
-          whys-are,
+          counts.sources_are,
+          counts.sinks_are,
+          counts.alone_are,
+          counts.pairs_are,
+          counts.need_is,
+          starts_are,
+          ends_are,
+          whys_are,
         )
             lines_are,
       )

@@ -6,6 +6,6 @@ use mathlib.Core.List.{List}
 use Rattle.responding.specs.Buffers.{Responded}
 
 -- two answers to the same file, and two buffers left, are one
-pub responded-once : {file out : List ℕ} {r r' : ℕ} {o o' : List ℕ} → Responded file out r o
+pub responded_once : {file out : List ℕ} {r r' : ℕ} {o o' : List ℕ} → Responded file out r o
     → Responded file out r' o' → (r ≡ r') × (o ≡ o')
-responded-once a b = (a.count ∙ sym b.count, a.bytes ∙ sym b.bytes)
+responded_once a b = (a.count ∙ sym b.count, a.bytes ∙ sym b.bytes)

@@ -1,22 +1,22 @@
 -- What the two functions are lent, and what is put into the buffer.
---   Plan-lent ..      a network that passes its tests, with room for the lines of its plan
---   handed-lines ..   the lines of the plan of a network that is handed in
+--   PlanLent ..      a network that passes its tests, with room for the lines of its plan
+--   handed_lines ..   the lines of the plan of a network that is handed in
 --   Responded ..      what is promised of the whole: the bytes that linkplan writes, and how many they are
 use Rattle.std.specs.Prelude.{ℕ, ◌≤◌, ◌≡◌, List, [], length}
 use Rattle.std.proofs.Math.Option.{none}
 use Rattle.rules.specs.Lists.{over}
-use Rattle.rules.specs.Calls.{arcs-of, first-trouble, network-tests}
-use Rattle.rules.specs.Text.{plan-lines, printed}
+use Rattle.rules.specs.Calls.{arcs_of, first_trouble, network_tests}
+use Rattle.rules.specs.Text.{plan_lines, printed}
 
 -- the network of n zones, tails ts and heads hs, with none withdrawn, passes its tests, and the buffer has room for the
 -- lines of its plan
-pub record Plan-lent (n : ℕ) (ts hs out : List ℕ) : Type 0 where
-  pub fine : first-trouble (network-tests n ts hs []) ≡ none
+pub record PlanLent (n : ℕ) (ts hs out : List ℕ) : Type 0 where
+  pub fine : first_trouble (network_tests n ts hs []) ≡ none
   pub lines_fit : 20000 ≤ length out
 
 -- the lines of the plan of the network of n zones, tails ts and heads hs
-abbrev pub handed-lines : ℕ → List ℕ → List ℕ → List ℕ
-handed-lines n ts hs = plan-lines (record { zones = n; arcs = arcs-of ts hs })
+abbrev pub handed_lines : ℕ → List ℕ → List ℕ → List ℕ
+handed_lines n ts hs = plan_lines (record { zones = n; arcs = arcs_of ts hs })
 
 -- from the bytes of a file to the bytes that linkplan writes, where out is lent: the answer r says how many they are,
 -- and they stand at the start of out, whose other bytes are as they came

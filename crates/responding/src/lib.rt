@@ -2,7 +2,7 @@
 // the one line of a refusal.
 ghost use Rattle.buffer.specs.Put.{Written};
 ghost use Rattle.io.specs.Counts.{IsPrefixLen};
-ghost use Rattle.responding.specs.Buffers.{Plan-lent, handed-lines, Responded};
+ghost use Rattle.responding.specs.Buffers.{PlanLent, handed_lines, Responded};
 
 use netfile::read;
 use phrases::refuse;
@@ -12,8 +12,8 @@ use text::put_answer;
 // Makes the plan of a network that passes every test, puts its lines, and answers their length. The lists that PLAN is
 // lent are as long as the largest network asks. A network file holds no withdrawn zones, so there are none.
 fn put_planned(zones: usize, tails: &[u16], heads: &[u16], out: &mut [u8]) -> usize
-    requires { Plan-lent zones tails.now heads.now out.old }
-    ensures { Written out.old 0 (handed-lines zones tails.now heads.now)
+    requires { PlanLent zones tails.now heads.now out.old }
+    ensures { Written out.old 0 (handed_lines zones tails.now heads.now)
         result out.new }
 {
     let gone = [0u16; 0];

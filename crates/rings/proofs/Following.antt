@@ -1,9 +1,9 @@
 -- The arcs that are put are exactly those of the rings, each once. Of a network N the zones are those below n, and f
 -- says their names.
---   rings-in, in-rings   an arc is put exactly where its head follows its tail in the ring of a component
---   rings-ends           both ends are zones
---   rings-once           none is put twice
---   rings-short          they are no more than the arcs of the network
+--   rings_in, in_rings   an arc is put exactly where its head follows its tail in the ring of a component
+--   rings_ends           both ends are zones
+--   rings_once           none is put twice
+--   rings_short          they are no more than the arcs of the network
 -- What comes next after a zone is the first zone above it with its name: then none lies between. Where there is none
 -- above, the zone is the highest, and its name comes next; where that is the zone itself, it is alone. Assumes nothing.
 use mathlib.Core.Path.{◌≡◌, refl, sym, ◌∙◌}
@@ -21,17 +21,17 @@ use Rattle.rules.specs.Lists.{span, any}
 use Rattle.rules.specs.Network.{Arc, ◌⟶◌, Network, Proper}
 use Rattle.rules.specs.Components.{name}
 use Rattle.rules.specs.Skeleton.{skeleton}
-use Rattle.theory.proofs.Ground.Bools.{bool_cases, true-not-false}
-use Rattle.theory.proofs.Ground.Lists.{any-true, any_false, first-true, first-none}
-use Rattle.theory.proofs.Ground.Ascending.{in_span, span-in, span-ascending, first-lowest}
-use Rattle.theory.proofs.Ground.Counting.{Distinct, distinct_append, answers-count}
-use Rattle.theory.proofs.Reaching.Components.{Together, together-refl, together-sym, together-zone}
-use Rattle.theory.proofs.Reaching.Components.{name_agree, name-apart, name_in, name-lowest, name-name, name-together}
-use Rattle.theory.proofs.Skeletons.SkeletonLaws.{Follows, in-skeleton-of}
-use Rattle.theory.proofs.Skeletons.SkeletonLeast.{follows-one, skeleton-short}
+use Rattle.theory.proofs.Ground.Bools.{bool_cases, true_not_false}
+use Rattle.theory.proofs.Ground.Lists.{any_true, any_false, first_true, first_none}
+use Rattle.theory.proofs.Ground.Ascending.{in_span, span_in, span_ascending, first_lowest}
+use Rattle.theory.proofs.Ground.Counting.{Distinct, distinct_append, answers_count}
+use Rattle.theory.proofs.Reaching.Components.{Together, together_refl, together_sym, together_zone}
+use Rattle.theory.proofs.Reaching.Components.{name_agree, name_apart, name_in, name_lowest, name_name, name_together}
+use Rattle.theory.proofs.Skeletons.SkeletonLaws.{Follows, in_skeleton_of}
+use Rattle.theory.proofs.Skeletons.SkeletonLeast.{follows_one, skeleton_short}
 use Rattle.memory.proofs.Numbers.{same?}
-use Rattle.rings.specs.Rings.{next-round, ring-arc, rings-of}
-use Rattle.rings.proofs.Passing.{ring-one, ring-none}
+use Rattle.rings.specs.Rings.{next_round, ring_arc, rings_of}
+use Rattle.rings.proofs.Passing.{ring_one, ring_none}
 
 module _ {N : Network} (P : Proper N) (n : ℕ) (all : N.zones ≡ span 0 n) (f : ℕ → ℕ)
     (named : (v : ℕ) → v < n → f v ≡ name N v) where
@@ -41,15 +41,15 @@ module _ {N : Network} (P : Proper N) (n : ℕ) (all : N.zones ≡ span 0 n) (f 
 
   -- and a zone is below n
   below : {v : ℕ} → In v N.zones → v < n
-  below i = let r = span-in 0 n (rw all at i) in omega arith
+  below i = let r = span_in 0 n (rw all at i) in omega arith
 
   -- two zones of one component have one name
   same_name : {a b : ℕ} → In a N.zones → In b N.zones → Together N a b → f b ≡ f a
-  same_name {a} {b} i j t = named b (below j) ∙ name_agree P j i (together-sym t) ∙ sym (named a (below i))
+  same_name {a} {b} i j t = named b (below j) ∙ name_agree P j i (together_sym t) ∙ sym (named a (below i))
 
   -- what comes next after a zone z, of which k zones lie above
   abbrev after : ℕ → ℕ → ℕ
-  after z k = next-round f (span (suc z) k) (f z)
+  after z k = next_round f (span (suc z) k) (f z)
 
   -- either it follows, or it is the zone itself, and none follows
   abbrev Way : ℕ → ℕ → Type 0
@@ -63,8 +63,8 @@ module _ {N : Network} (P : Proper N) (n : ℕ) (all : N.zones ≡ span 0 n) (f 
       let zs = span (suc z) k in
       let test : ℕ → Bool = λ u. eqb (f u) (f z) in
       let b = after z k in
-      let found = first-true test (f z) i t in
-      let place = span-in (suc z) k found.0 in
+      let found = first_true test (f z) i t in
+      let place = span_in (suc z) k found.0 in
       let here : In z N.zones = zone (omega arith) in
       let there : In b N.zones = zone (omega arith) in
       let one : name N z ≡ name N b =
@@ -75,9 +75,9 @@ module _ {N : Network} (P : Proper N) (n : ℕ) (all : N.zones ≡ span 0 n) (f 
         there,
         inl (record {
           up = omega arith;
-          mates = name-apart P here there one;
+          mates = name_apart P here there one;
           none_between = λ c j low high t.
-              let least = first-lowest test (f z) zs (span-ascending (suc z) k)
+              let least = first_lowest test (f z) zs (span_ascending (suc z) k)
               (in_span (suc z) k (omega arith) (let l = below j in omega arith))
               (eq-eqb (f c) (f z) (same_name here j t))
               in
@@ -86,11 +86,11 @@ module _ {N : Network} (P : Proper N) (n : ℕ) (all : N.zones ≡ span 0 n) (f 
       )
 
   -- no zone above has the name: the zone is the highest
-  way-last : (z k : ℕ) → z + suc k ≡ n → ((c : ℕ) → In c N.zones → z < c → Together N z c → ⊥)
+  way_last : (z k : ℕ) → z + suc k ≡ n → ((c : ℕ) → In c N.zones → z < c → Together N z c → ⊥)
       → after z k ≡ name N z → Way z (after z k)
-  way-last z k e top q =
+  way_last z k e top q =
       let here : In z N.zones = zone (omega arith) in
-      let lowest = name-lowest P here here together-refl in
+      let lowest = name_lowest P here here together_refl in
       elim (same? (after z k) z) [
         | inl own ↦ inr (own, λ c F. alone own here F)
         | inr other ↦
@@ -100,8 +100,8 @@ module _ {N : Network} (P : Proper N) (n : ℕ) (all : N.zones ≡ span 0 n) (f 
               rw q (name_in P here),
               rw q (inr (record {
                 down = omega (arith, ne);
-                mates = name-together P here;
-                lowest = name-name P here;
+                mates = name_together P here;
+                lowest = name_name P here;
                 none_above = top;
               })),
             )
@@ -109,10 +109,10 @@ module _ {N : Network} (P : Proper N) (n : ℕ) (all : N.zones ≡ span 0 n) (f 
     where
       -- a zone that comes next after itself is followed by none
       alone : {c : ℕ} → after z k ≡ z → In z N.zones → Follows N z c → ⊥
-      alone {c} own here (inl F) = top c (together-zone P here F.mates) F.up F.mates
+      alone {c} own here (inl F) = top c (together_zone P here F.mates) F.up F.mates
       alone {c} own here (inr F) =
           let low = F.down in
-          let same : name N z ≡ c = name_agree P here (together-zone P here F.mates) F.mates ∙ F.lowest in
+          let same : name N z ≡ c = name_agree P here (together_zone P here F.mates) F.mates ∙ F.lowest in
           omega (arith, own, q)
 
   -- the ways of a zone
@@ -122,104 +122,104 @@ module _ {N : Network} (P : Proper N) (n : ℕ) (all : N.zones ≡ span 0 n) (f 
       let test : ℕ → Bool = λ u. eqb (f u) (f z) in
       let here : In z N.zones = zone (omega arith) in
       elim (bool_cases (any test zs)) [
-        | inl t ↦ let x = any-true test zs t in way_next z k e x.0 x.1 x.2
+        | inl t ↦ let x = any_true test zs t in way_next z k e x.0 x.1 x.2
         | inr t ↦
-            way-last z k e
+            way_last z k e
             (λ c j low m.
-            true-not-false (eq-eqb (f c) (f z) (same_name here j m))
+            true_not_false (eq-eqb (f c) (f z) (same_name here j m))
             (any_false test t (in_span (suc z) k low (let l = below j in omega arith))))
-            (first-none test (f z) zs (λ x i. any_false test t i) ∙ named z (omega arith))
+            (first_none test (f z) zs (λ x i. any_false test t i) ∙ named z (omega arith))
       ]
 
   -- an arc out of a zone starts there, ends at a zone, and follows
-  arc-in : (z k : ℕ) → z + suc k ≡ n → (e : Arc) → In e (ring-arc z (after z k))
+  arc_in : (z k : ℕ) → z + suc k ≡ n → (e : Arc) → In e (ring_arc z (after z k))
       → (e.tail ≡ z) × In e.head N.zones × Follows N e.tail e.head
-  arc-in z k q e i =
+  arc_in z k q e i =
       elim (way z k q) [
-        | inl F ↦ elim (Memᴰ.cases_cons (rw (ring-one z (after z k) F.0) at i)) [
+        | inl F ↦ elim (Memᴰ.cases_cons (rw (ring_one z (after z k) F.0) at i)) [
           | inl s ↦ rw s (refl, F.1, F.2)
           | inr m ↦ absurd (Memᴰ.not-nil m)
         ]
-        | inr F ↦ absurd (Memᴰ.not-nil (rw (ring-none z (after z k) F.0) at i))
+        | inr F ↦ absurd (Memᴰ.not-nil (rw (ring_none z (after z k) F.0) at i))
       ]
 
   -- the arcs out of the zones from z on
-  all_in : (z k : ℕ) → z + k ≡ n → (e : Arc) → In e (rings-of f (span z k))
+  all_in : (z k : ℕ) → z + k ≡ n → (e : Arc) → In e (rings_of f (span z k))
       → (z ≤ e.tail) × (e.tail < n) × In e.head N.zones × Follows N e.tail e.head
-  unfolding rings-of
+  unfolding rings_of
   all_in z zero q e i = absurd (Memᴰ.not-nil i)
   all_in z (suc k) q e i =
-      elim (Memᴰ.append_cases (rings-of f (span (suc z) k)) i) [
+      elim (Memᴰ.append_cases (rings_of f (span (suc z) k)) i) [
         | inl j ↦
             let r = all_in (suc z) k (omega arith) e j in
             let low = r.0 in
             (omega arith, r.1, r.2, r.3)
         | inr j ↦
-            let r = arc-in z k q e j in
+            let r = arc_in z k q e j in
             let same = r.0 in
             (omega arith, omega arith, r.1, r.2)
       ]
 
   -- an arc that follows is among those out of the zones from z on
   in_all : (z k : ℕ) → z + k ≡ n → (a b : ℕ) → z ≤ a → In a N.zones → In b N.zones → Follows N a b
-      → In (a ⟶ b) (rings-of f (span z k))
-  unfolding rings-of
+      → In (a ⟶ b) (rings_of f (span z k))
+  unfolding rings_of
   in_all z zero q a b low i j F = let l = below i in absurd (omega arith)
   in_all z (suc k) q a b low i j F =
       elim (same? a z) [
         | inr other ↦
-            Memᴰ.append_left (ring-arc z (after z k))
+            Memᴰ.append_left (ring_arc z (after z k))
             (in_all (suc z) k (omega arith) a b (omega (arith, other)) i j F)
         | inl same ↦ elim (way z k q) [
           | inl G ↦
-              let b-is : b ≡ after z k = follows-one P j G.1 (rw same at F) G.2 in
-              Memᴰ.append_right (rings-of f (span (suc z) k))
-              (rw (same, b-is, ring-one z (after z k) G.0) (Memᴰ.head refl))
+              let b_is : b ≡ after z k = follows_one P j G.1 (rw same at F) G.2 in
+              Memᴰ.append_right (rings_of f (span (suc z) k))
+              (rw (same, b_is, ring_one z (after z k) G.0) (Memᴰ.head refl))
           | inr G ↦ absurd (G.1 b (rw same at F))
         ]
       ]
 
   -- the arc out of one zone stands once
-  arc-once : (z k : ℕ) → z + suc k ≡ n → Distinct (ring-arc z (after z k))
-  arc-once z k q =
+  arc_once : (z k : ℕ) → z + suc k ≡ n → Distinct (ring_arc z (after z k))
+  arc_once z k q =
       elim (way z k q) [
-        | inl F ↦ rw (ring-one z (after z k) F.0) (Memᴰ.not-nil, tt)
-        | inr F ↦ rw (ring-none z (after z k) F.0) tt
+        | inl F ↦ rw (ring_one z (after z k) F.0) (Memᴰ.not-nil, tt)
+        | inr F ↦ rw (ring_none z (after z k) F.0) tt
       ]
 
   -- those out of the zones from z on stand once
-  all_once : (z k : ℕ) → z + k ≡ n → Distinct (rings-of f (span z k))
-  unfolding rings-of
+  all_once : (z k : ℕ) → z + k ≡ n → Distinct (rings_of f (span z k))
+  unfolding rings_of
   all_once z zero q = tt
   all_once z (suc k) q =
-      distinct_append (rings-of f (span (suc z) k)) (ring-arc z (after z k))
+      distinct_append (rings_of f (span (suc z) k)) (ring_arc z (after z k))
       (all_once (suc z) k (omega arith))
-      (arc-once z k q)
+      (arc_once z k q)
       (λ e i j.
       let low = (all_in (suc z) k (omega arith) e i).0 in
-      let same = (arc-in z k q e j).0 in
+      let same = (arc_in z k q e j).0 in
       omega arith)
 
   -- an arc that is put follows
-  pub rings-in : (e : Arc) → In e (rings-of f (span 0 n)) → Follows N e.tail e.head
-  rings-in e i = (all_in 0 n (zero-add n) e i).3
+  pub rings_in : (e : Arc) → In e (rings_of f (span 0 n)) → Follows N e.tail e.head
+  rings_in e i = (all_in 0 n (zero-add n) e i).3
 
   -- its ends are zones
-  pub rings-ends : (e : Arc) → In e (rings-of f (span 0 n)) → In e.tail N.zones × In e.head N.zones
-  rings-ends e i = let r = all_in 0 n (zero-add n) e i in (zone r.1, r.2)
+  pub rings_ends : (e : Arc) → In e (rings_of f (span 0 n)) → In e.tail N.zones × In e.head N.zones
+  rings_ends e i = let r = all_in 0 n (zero-add n) e i in (zone r.1, r.2)
 
   -- an arc between zones that follows is put
-  pub in-rings : (a b : ℕ) → In a N.zones → In b N.zones → Follows N a b → In (a ⟶ b) (rings-of f (span 0 n))
-  in-rings a b i j F = in_all 0 n (zero-add n) a b (omega arith) i j F
+  pub in_rings : (a b : ℕ) → In a N.zones → In b N.zones → Follows N a b → In (a ⟶ b) (rings_of f (span 0 n))
+  in_rings a b i j F = in_all 0 n (zero-add n) a b (omega arith) i j F
 
   -- none is put twice
-  pub rings-once : Distinct (rings-of f (span 0 n))
-  rings-once = all_once 0 n (zero-add n)
+  pub rings_once : Distinct (rings_of f (span 0 n))
+  rings_once = all_once 0 n (zero-add n)
 
   -- they are no more than the arcs of the network
-  pub rings-short : length (rings-of f (span 0 n)) ≤ length N.arcs
-  rings-short =
-      let count = answers-count (λ (e : Arc). e) (rings-of f (span 0 n)) (skeleton N) rings-once
-      (λ e i. let z = rings-ends e i in (e, in-skeleton-of P z.0 z.1 (inl (rings-in e i)), refl))
+  pub rings_short : length (rings_of f (span 0 n)) ≤ length N.arcs
+  rings_short =
+      let count = answers_count (λ (e : Arc). e) (rings_of f (span 0 n)) (skeleton N) rings_once
+      (λ e i. let z = rings_ends e i in (e, in_skeleton_of P z.0 z.1 (inl (rings_in e i)), refl))
       in
-      omega (arith, count, skeleton-short P)
+      omega (arith, count, skeleton_short P)

@@ -6,15 +6,15 @@ ghost use Rattle.std.specs.Prelude.{◌≡◌, ◌+◌, ◌<◌};
 ghost use Rattle.std.proofs.lemmas.List.Edits.{sets};
 ghost use Rattle.rules.specs.Lists.{span};
 ghost use Rattle.memory.specs.Regions.{cell};
-ghost use Rattle.memory.specs.Putting.{Arcs-fit};
-ghost use Rattle.rings.specs.Rings.{ring-arc, rings-of, Rings-lent, Ring-put, Rings-put};
+ghost use Rattle.memory.specs.Putting.{ArcsFit};
+ghost use Rattle.rings.specs.Rings.{ring_arc, rings_of, RingsLent, RingPut, RingsPut};
 
 use memory::wide;
 use workmap::RingsAt;
 
 // Notes each name as what comes first: the highest zone of its component is followed by it.
 fn start_rings(work: &mut [u16], at: RingsAt)
-    requires { Rings-lent work.old at }
+    requires { RingsLent work.old at }
     ensures { work.new ≡ sets work.old at.last (span 0 at.zones) }
 {
     let mut a = 0;
@@ -34,11 +34,11 @@ fn put_one(
     heads: &mut [u16],
     put: usize,
 ) -> usize
-    requires rings_lent { Rings-lent work.old at }
+    requires rings_lent { RingsLent work.old at }
     requires z_lt_zones { z < at.zones }
-    requires arcs_fit { Arcs-fit tails.old heads.old put
-        (ring-arc z (cell work.old at.last (cell work.old at.names z))) }
-    ensures { Ring-put work.old work.new at z tails.old heads.old
+    requires arcs_fit { ArcsFit tails.old heads.old put
+        (ring_arc z (cell work.old at.last (cell work.old at.names z))) }
+    ensures { RingPut work.old work.new at z tails.old heads.old
         tails.new heads.new put result }
 {
     let here = z as u16;
@@ -61,9 +61,9 @@ pub fn put_rings(
     heads: &mut [u16],
     put: usize,
 ) -> usize
-    requires rings_lent { Rings-lent work.old at }
-    requires arcs_fit { Arcs-fit tails.old heads.old put (rings-of (cell work.old at.names) (span 0 at.zones)) }
-    ensures { Rings-put work.old work.new at tails.old heads.old
+    requires rings_lent { RingsLent work.old at }
+    requires arcs_fit { ArcsFit tails.old heads.old put (rings_of (cell work.old at.names) (span 0 at.zones)) }
+    ensures { RingsPut work.old work.new at tails.old heads.old
         tails.new heads.new put result }
 {
     start_rings(work, at);

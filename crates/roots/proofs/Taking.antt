@@ -1,10 +1,10 @@
 -- A place of the order is taken: its zone z has no root, and a search against the arcs gives the number of z to the
 -- zones that lead to z.
---   pass-taken    the pass goes on: these zones lead to z by zones without a root, since where a zone has a root all
+--   pass_taken    the pass goes on: these zones lead to z by zones without a root, since where a zone has a root all
 --                 that lead to it have one
---   topo-taken    the queue is longer by a component, and lists zones by component, in topological order: what came
+--   topo_taken    the queue is longer by a component, and lists zones by component, in topological order: what came
 --                 later was free when what came earlier got its root, and a free zone leads to no zone that has a root
---   topo-begun    the queue is empty
+--   topo_begun    the queue is empty
 -- Assumes nothing.
 use mathlib.Core.Path.{◌≡◌, sym, ap, ◌∙◌}
 use mathlib.Core.Logic.{◌⊎◌, inl, inr}
@@ -18,21 +18,21 @@ use Rattle.arranged.specs.Rows.{Rows, Sound, Entry, Run, rows_of}
 use Rattle.arranged.specs.Marks.{Marked}
 use Rattle.memory.proofs.Numbers.{same?, below?}
 use Rattle.search.specs.Marking.{Queued, Met, Spread}
-use Rattle.descent.specs.Order.{Ended-ordered}
-use Rattle.descent.proofs.Entries.{entry-head}
+use Rattle.descent.specs.Order.{EndedOrdered}
+use Rattle.descent.proofs.Entries.{entry_head}
 use Rattle.roots.specs.Pass.{Back, Pass, Topo}
-use Rattle.roots.proofs.Turn.{turn, pass-after}
+use Rattle.roots.proofs.Turn.{turn, pass_after}
 
 -- the search from z is done, in the rows of the arcs turned round; G is the rows of the arcs
 module _ {w w' : List ℕ} {T : RowsAt} {S : SearchAt} {G : Rows} (W : Sound G) (zones : T.zones ≡ G.zones)
-    (turn-to : (a b : ℕ) → Entry G a b → Entry (rows_of w T) b a)
-    (turn-back : (a b : ℕ) → Entry (rows_of w T) b a → Entry G a b) (d order : ℕ → ℕ) {n k z from tail : ℕ}
-    (P : Ended-ordered (Entry G) d order n) (inside : k < n)
+    (turn_to : (a b : ℕ) → Entry G a b → Entry (rows_of w T) b a)
+    (turn_back : (a b : ℕ) → Entry (rows_of w T) b a → Entry G a b) (d order : ℕ → ℕ) {n k z from tail : ℕ}
+    (P : EndedOrdered (Entry G) d order n) (inside : k < n)
     (Q : Pass (Entry G) order (cell w S.marks) T.zones (k + 1)) (is : order k ≡ z)
     (free : cell w S.marks z ≡ 0) (D : Spread w w' T S z (z + 1) from tail) where
   -- An entry is between zones.
   entries : (u v : ℕ) → Entry G u v → (u < T.zones) × (v < T.zones)
-  entries u v e = rw zones (e.tail, entry-head W e)
+  entries u v e = rw zones (e.tail, entry_head W e)
 
   -- A free zone is free, or the search met it.
   new : (v : ℕ) → v < T.zones → cell w S.marks v ≡ 0
@@ -46,17 +46,17 @@ module _ {w w' : List ℕ} {T : RowsAt} {S : SearchAt} {G : Rows} (W : Sound G) 
   ]
 
   -- A free zone to which the search went leads to z by free zones.
-  back-of : {v : ℕ} → Run (Entry (rows_of w T)) z v → cell w S.marks v ≡ 0
+  back_of : {v : ℕ} → Run (Entry (rows_of w T)) z v → cell w S.marks v ≡ 0
       → Back (Entry G) (λ c. (c < T.zones) × (cell w S.marks c ≡ 0)) z v
-  back-of Run.here f = Back.here
-  back-of (Run.further {b = b} {c = c} p e) f =
-      let y = turn-back c b e in
-      Back.further (back-of p (Q.closed c b y f)) y ((entries c b y).0, f)
+  back_of Run.here f = Back.here
+  back_of (Run.further {b = b} {c = c} p e) f =
+      let y = turn_back c b e in
+      Back.further (back_of p (Q.closed c b y f)) y ((entries c b y).0, f)
 
   -- A free zone that gets the number of z leads to z by free zones.
-  new-back : (v : ℕ) → v < T.zones → cell w S.marks v ≡ 0 → (cell w' S.marks v ≡ 0)
+  new_back : (v : ℕ) → v < T.zones → cell w S.marks v ≡ 0 → (cell w' S.marks v ≡ 0)
       ⊎ ((cell w' S.marks v ≡ z + 1) × Back (Entry G) (λ c. (c < T.zones) × (cell w S.marks c ≡ 0)) z v)
-  new-back v l f = elim (new v l f) [ inl e ↦ inl e | inr M ↦ inr (M.mark, back-of M.run f) ]
+  new_back v l f = elim (new v l f) [ inl e ↦ inl e | inr M ↦ inr (M.mark, back_of M.run f) ]
 
   -- z has its own number.
   start : cell w' S.marks z ≡ z + 1
@@ -66,45 +66,45 @@ module _ {w w' : List ℕ} {T : RowsAt} {S : SearchAt} {G : Rows} (W : Sound G) 
   ]
 
   -- A free zone with an entry to one that gets the number of z gets it too.
-  new-more : (b c : ℕ) → cell w S.marks b ≡ 0 → cell w' S.marks b ≡ z + 1 → Entry G c b
+  new_more : (b c : ℕ) → cell w S.marks b ≡ 0 → cell w' S.marks b ≡ z + 1 → Entry G c b
       → cell w S.marks c ≡ 0 → cell w' S.marks c ≡ z + 1
-  new-more b c f m e g =
-      let a = turn-to c b e in
+  new_more b c f m e g =
+      let a = turn_to c b e in
       let marked : Marked w' S.marks b = λ y. omega arith in
       let on : Marked w' S.marks c
       = rw a.is at (D.closed b (entries c b e).1 marked a.at a.low a.high) in
       elim (new c (entries c b e).0 g) [ inl y ↦ absurd (on y) | inr M ↦ M.mark ]
 
   -- The pass has taken place k.
-  pub pass-taken : Pass (Entry G) order (cell w' S.marks) T.zones k
-  pass-taken =
+  pub pass_taken : Pass (Entry G) order (cell w' S.marks) T.zones k
+  pass_taken =
       turn d order (cell w S.marks) (cell w' S.marks) P inside entries D.course.able.able.zone Q is free
-      D.course.old new-back start new-more
+      D.course.old new_back start new_more
 
   -- the queue as it was
   module _ (Y : Topo (Entry G) (cell w S.marks) (cell w S.queue) T.zones from) where
     -- A zone that was on the queue keeps its root.
-    old-root : (j : ℕ) → j < from → cell w' S.marks (cell w' S.queue j) ≡ cell w S.marks (cell w S.queue j)
-    old-root j b =
+    old_root : (j : ℕ) → j < from → cell w' S.marks (cell w' S.queue j) ≡ cell w S.marks (cell w S.queue j)
+    old_root j b =
         rw (D.course.front j b) (D.course.old (cell w S.queue j) (Y.zone j b) (Y.named j b))
 
     -- The queue holds zones.
-    zone-now : (j : ℕ) → j < tail → cell w' S.queue j < T.zones
-    zone-now j l = elim (below? j from) [
+    zone_now : (j : ℕ) → j < tail → cell w' S.queue j < T.zones
+    zone_now j l = elim (below? j from) [
       | inl b ↦ rw (D.course.front j b) (Y.zone j b)
       | inr b ↦ (D.course.met j b l).zone
     ]
 
     -- The queue holds zones that have roots.
-    named-now : (j : ℕ) → j < tail → cell w' S.marks (cell w' S.queue j) ≡ 0 → ⊥
-    named-now j l y = elim (below? j from) [
-      | inl b ↦ Y.named j b (sym (old-root j b) ∙ y)
+    named_now : (j : ℕ) → j < tail → cell w' S.marks (cell w' S.queue j) ≡ 0 → ⊥
+    named_now j l y = elim (below? j from) [
+      | inl b ↦ Y.named j b (sym (old_root j b) ∙ y)
       | inr b ↦ omega (arith, y, (D.course.met j b l).mark)
     ]
 
     -- The queue holds no zone twice.
-    distinct-now : (i j : ℕ) → i < j → j < tail → cell w' S.queue i ≡ cell w' S.queue j → ⊥
-    distinct-now i j l m y =
+    distinct_now : (i j : ℕ) → i < j → j < tail → cell w' S.queue i ≡ cell w' S.queue j → ⊥
+    distinct_now i j l m y =
         let front = D.course.front in
         elim (below? j from) [
           | inl b ↦
@@ -117,8 +117,8 @@ module _ {w w' : List ℕ} {T : RowsAt} {S : SearchAt} {G : Rows} (W : Sound G) 
         ]
 
     -- A zone that has a root is on the queue.
-    all-now : (v : ℕ) → v < T.zones → Marked w' S.marks v → Queued (cell w' S.queue) 0 tail v
-    all-now v l m = elim (D.course.listed v l m) [
+    all_now : (v : ℕ) → v < T.zones → Marked w' S.marks v → Queued (cell w' S.queue) 0 tail v
+    all_now v l m = elim (D.course.listed v l m) [
       | inl o ↦
           let s = Y.all v l o in
           record {
@@ -131,37 +131,37 @@ module _ {w w' : List ℕ} {T : RowsAt} {S : SearchAt} {G : Rows} (W : Sound G) 
     ]
 
     -- What came before leads here only within a component.
-    after-now : (i j : ℕ) → i < j → j < tail → Run (Entry G) (cell w' S.queue j) (cell w' S.queue i)
+    after_now : (i j : ℕ) → i < j → j < tail → Run (Entry G) (cell w' S.queue j) (cell w' S.queue i)
         → cell w' S.marks (cell w' S.queue j) ≡ cell w' S.marks (cell w' S.queue i)
-    after-now i j l m p =
+    after_now i j l m p =
         let front = D.course.front in
         elim (below? j from) [
           | inl b ↦
               let a : i < from = omega arith in
               let r : Run (Entry G) (cell w S.queue j) (cell w S.queue i) = rw (front i a, front j b) at p in
-              old-root j b ∙ Y.after i j l b r ∙ sym (old-root i a)
+              old_root j b ∙ Y.after i j l b r ∙ sym (old_root i a)
           | inr b ↦ elim (below? i from) [
             | inl a ↦
                 let r : Run (Entry G) (cell w' S.queue j) (cell w S.queue i) = rw (front i a) at p in
-                absurd (pass-after Q (D.course.met j b m).free (Y.named i a) r)
+                absurd (pass_after Q (D.course.met j b m).free (Y.named i a) r)
             | inr a ↦ (D.course.met j b m).mark ∙ sym (D.course.met i a (omega arith)).mark
           ]
         ]
 
     -- The queue with a component more.
-    pub topo-taken : Topo (Entry G) (cell w' S.marks) (cell w' S.queue) T.zones tail
-    topo-taken = record {
-      zone = zone-now;
-      named = named-now;
-      distinct = distinct-now;
-      all = all-now;
-      after = after-now;
+    pub topo_taken : Topo (Entry G) (cell w' S.marks) (cell w' S.queue) T.zones tail
+    topo_taken = record {
+      zone = zone_now;
+      named = named_now;
+      distinct = distinct_now;
+      all = all_now;
+      after = after_now;
     }
 
 -- The queue is empty, and no zone has a root.
-pub topo-begun : {E : ℕ → ℕ → Type 0} (root q : ℕ → ℕ) {zones : ℕ} → ((v : ℕ) → v < zones → root v ≡ 0)
+pub topo_begun : {E : ℕ → ℕ → Type 0} (root q : ℕ → ℕ) {zones : ℕ} → ((v : ℕ) → v < zones → root v ≡ 0)
     → Topo E root q zones 0
-topo-begun root q clear = record {
+topo_begun root q clear = record {
   zone = λ j l. absurd (omega arith);
   named = λ j l y. omega arith;
   distinct = λ i j l m y. omega arith;

@@ -1,11 +1,11 @@
 -- The second pass, turn by turn: from the order's property, the free zones that lead to the last free zone of the
 -- order are its component.
---   back-sound    what leads to that zone z by free zones is reached from z: of a free zone that z does not reach all
+--   back_sound    what leads to that zone z by free zones is reached from z: of a free zone that z does not reach all
 --                 heads were seen before z, and what was found so far was seen no earlier than z
 --   turn          the pass takes a place of the order, whose zone z is free
---   pass-begun, pass-skip   nothing is done yet;  the zone at a place has its root already
---   pass-ended    all is done: two zones have one root exactly where each leads to the other
---   pass-after    a free zone leads to no zone that has a root
+--   pass_begun, pass_skip   nothing is done yet;  the zone at a place has its root already
+--   pass_ended    all is done: two zones have one root exactly where each leads to the other
+--   pass_after    a free zone leads to no zone that has a root
 -- Assumes nothing.
 use mathlib.Core.Path.{◌≡◌, sym, ap, ◌∙◌}
 use mathlib.Core.Logic.{◌⊎◌, inl, inr, ◌↔◌}
@@ -13,22 +13,22 @@ use Prim.Native.Nat.{ℕ, pred, ◌+◌, ◌≤◌, ◌<◌}
 use native.Mathlib.Omega.{arith}
 use Rattle.arranged.specs.Rows.{Run}
 use Rattle.memory.proofs.Numbers.{same?, below?}
-use Rattle.descent.specs.Order.{Ended-ordered, In-order}
-use Rattle.descent.proofs.Entries.{run-trans}
+use Rattle.descent.specs.Order.{EndedOrdered, InOrder}
+use Rattle.descent.proofs.Entries.{run_trans}
 use Rattle.roots.specs.Pass.{Back, Mutual, Pass}
 
 -- What leads to z by free zones leads to z.
-back-run : {E : ℕ → ℕ → Type 0} {Free : ℕ → Type 0} {z y : ℕ} → Back E Free z y → Run E y z
-back-run Back.here = Run.here
-back-run (Back.further p e f) = run-trans (Run.further Run.here e) (back-run p)
+back_run : {E : ℕ → ℕ → Type 0} {Free : ℕ → Type 0} {z y : ℕ} → Back E Free z y → Run E y z
+back_run Back.here = Run.here
+back_run (Back.further p e f) = run_trans (Run.further Run.here e) (back_run p)
 
 -- the order has its property up to place n, k is a place in it, and free zones stand no later than at k
 module _ {E : ℕ → ℕ → Type 0} (d order : ℕ → ℕ) {n k : ℕ}
-    (P : Ended-ordered E d order n) (inside : k < n)
-    {Free : ℕ → Type 0} (early : (v : ℕ) → Free v → In-order order (k + 1) v) where
+    (P : EndedOrdered E d order n) (inside : k < n)
+    {Free : ℕ → Type 0} (early : (v : ℕ) → Free v → InOrder order (k + 1) v) where
   -- A free zone with an entry to a zone that was seen no earlier than the one at k was seen no earlier itself, and is
   -- reached from there.
-  back_one : (b c : ℕ) → d (order k) ≤ d b → E c b → In-order order (k + 1) c → (d (order k) ≤ d c) × Run E (order k) c
+  back_one : (b c : ℕ) → d (order k) ≤ d b → E c b → InOrder order (k + 1) c → (d (order k) ≤ d c) × Run E (order k) c
   back_one b c low e s = elim (below? s.at k) [
     | inl l ↦ rw (sym s.is) (elim (P s.at k l inside) [
       | inl r ↦ r
@@ -40,9 +40,9 @@ module _ {E : ℕ → ℕ → Type 0} (d order : ℕ → ℕ) {n k : ℕ}
   ]
 
   -- What leads to the zone at k by free zones is reached from it, and was seen no earlier.
-  pub back-sound : {y : ℕ} → Back E Free (order k) y → (d (order k) ≤ d y) × Run E (order k) y
-  back-sound Back.here = (omega arith, Run.here)
-  back-sound (Back.further {b = b} {c = c} p e f) = back_one b c (back-sound p).0 e (early c f)
+  pub back_sound : {y : ℕ} → Back E Free (order k) y → (d (order k) ≤ d y) × Run E (order k) y
+  back_sound Back.here = (omega arith, Run.here)
+  back_sound (Back.further {b = b} {c = c} p e f) = back_one b c (back_sound p).0 e (early c f)
 
 -- What a free zone leads to is free.
 free_on : {E : ℕ → ℕ → Type 0} (root : ℕ → ℕ) → ((u v : ℕ) → E u v → root u ≡ 0 → root v ≡ 0)
@@ -52,7 +52,7 @@ free_on root closed (Run.further p e) h = closed _ _ e (free_on root closed p h)
 
 -- a turn: z, at place k, is free, and root' gives its number to exactly the free zones that lead to it by free zones
 module _ {E : ℕ → ℕ → Type 0} (d order root root' : ℕ → ℕ) {n zones k z : ℕ}
-    (P : Ended-ordered E d order n) (inside : k < n)
+    (P : EndedOrdered E d order n) (inside : k < n)
     (entries : (u v : ℕ) → E u v → (u < zones) × (v < zones)) (zone : z < zones)
     (S : Pass E order root zones (k + 1)) (is : order k ≡ z) (free : root z ≡ 0)
     (old : (v : ℕ) → v < zones → (root v ≡ 0 → ⊥) → root' v ≡ root v)
@@ -65,22 +65,22 @@ module _ {E : ℕ → ℕ → Type 0} (d order root root' : ℕ → ℕ) {n zone
   was_free v l e = elim (same? (root v) 0) [ inl q ↦ q | inr q ↦ absurd (q (sym (old v l q) ∙ e)) ]
 
   -- Each of z and what is named now leads to the other.
-  with-z : (v : ℕ) → Back E (λ c. (c < zones) × (root c ≡ 0)) z v → Mutual E z v
-  with-z v b = (
-    rw is at (back-sound d order P inside (λ c f. S.taken c f.0 f.1) (rw (sym is) at b)).1,
-    back-run b,
+  with_z : (v : ℕ) → Back E (λ c. (c < zones) × (root c ≡ 0)) z v → Mutual E z v
+  with_z v b = (
+    rw is at (back_sound d order P inside (λ c f. S.taken c f.0 f.1) (rw (sym is) at b)).1,
+    back_run b,
   )
 
   -- What z leads to and leads to z is named now.
-  all-z : {v b : ℕ} → Run E z v → Run E v b → root b ≡ 0 → root' b ≡ z + 1 → root' v ≡ z + 1
-  all-z p Run.here f m = m
-  all-z {b = b} p (Run.further {b = c} q e) f m =
-      let g : root c ≡ 0 = free_on root S.closed (run-trans p q) free in
-      all-z p q g (more b c f m e g)
+  all_z : {v b : ℕ} → Run E z v → Run E v b → root b ≡ 0 → root' b ≡ z + 1 → root' v ≡ z + 1
+  all_z p Run.here f m = m
+  all_z {b = b} p (Run.further {b = c} q e) f m =
+      let g : root c ≡ 0 = free_on root S.closed (run_trans p q) free in
+      all_z p q g (more b c f m e g)
 
   -- A free zone stands before place k.
-  taken-now : (v : ℕ) → v < zones → root' v ≡ 0 → In-order order k v
-  taken-now v h e =
+  taken_now : (v : ℕ) → v < zones → root' v ≡ 0 → InOrder order k v
+  taken_now v h e =
       let s = S.taken v h (was_free v h e) in
       elim (below? s.at k) [
         | inl l ↦ record { at = s.at; low = l; is = s.is }
@@ -91,18 +91,18 @@ module _ {E : ℕ → ℕ → Type 0} (d order root root' : ℕ → ℕ) {n zone
       ]
 
   -- A head of a free zone is free.
-  closed-now : (u v : ℕ) → E u v → root' u ≡ 0 → root' v ≡ 0
-  closed-now u v e h =
+  closed_now : (u v : ℕ) → E u v → root' u ≡ 0 → root' v ≡ 0
+  closed_now u v e h =
       let g = was_free u (entries u v e).0 h in
       let f = S.closed u v e g in
       elim (new v (entries u v e).1 f) [ inl q ↦ q | inr q ↦ absurd (omega (arith, h, more v u f q.0 e g)) ]
 
   -- A zone and its root lead to each other.
-  sound-now : (v r : ℕ) → v < zones → root' v ≡ r + 1 → (r < zones) × ((root' r ≡ r + 1) × Mutual E r v)
-  sound-now v r l e = elim (same? (root v) 0) [
+  sound_now : (v r : ℕ) → v < zones → root' v ≡ r + 1 → (r < zones) × ((root' r ≡ r + 1) × Mutual E r v)
+  sound_now v r l e = elim (same? (root v) 0) [
     | inl f ↦ elim (new v l f) [
       | inl q ↦ absurd (omega (arith, e, q))
-      | inr q ↦ let y : r ≡ z = omega (arith, e, q.0) in rw y (zone, (start, with-z v q.1))
+      | inr q ↦ let y : r ≡ z = omega (arith, e, q.0) in rw y (zone, (start, with_z v q.1))
     ]
     | inr f ↦
         let t = S.sound v r l (sym (old v l f) ∙ e) in
@@ -110,13 +110,13 @@ module _ {E : ℕ → ℕ → Type 0} (d order root root' : ℕ → ℕ) {n zone
   ]
 
   -- Zones that lead to each other have one root, once one of them has.
-  complete-now : (u v : ℕ) → u < zones → v < zones → (root' u ≡ 0 → ⊥) → Mutual E u v → root' v ≡ root' u
-  complete-now u v hu hv h t = elim (same? (root u) 0) [
+  complete_now : (u v : ℕ) → u < zones → v < zones → (root' u ≡ 0 → ⊥) → Mutual E u v → root' v ≡ root' u
+  complete_now u v hu hv h t = elim (same? (root u) 0) [
     | inl f ↦ elim (new u hu f) [
       | inl q ↦ absurd (h q)
       | inr q ↦
-          let y = with-z u q.1 in
-          all-z (run-trans y.0 t.0) (run-trans t.1 y.1) free start ∙ sym q.0
+          let y = with_z u q.1 in
+          all_z (run_trans y.0 t.0) (run_trans t.1 y.1) free start ∙ sym q.0
     ]
     | inr f ↦
         let e = S.complete u v hu hv f t in
@@ -125,13 +125,13 @@ module _ {E : ℕ → ℕ → Type 0} (d order root root' : ℕ → ℕ) {n zone
 
   -- The pass has taken place k.
   pub turn : Pass E order root' zones k
-  turn = record { taken = taken-now; closed = closed-now; sound = sound-now; complete = complete-now }
+  turn = record { taken = taken_now; closed = closed_now; sound = sound_now; complete = complete_now }
 
 -- Nothing is done yet: no zone has a root, and every zone stands in the order.
-pub pass-begun : {E : ℕ → ℕ → Type 0} (order root : ℕ → ℕ) {zones n : ℕ}
-    → ((u v : ℕ) → E u v → (u < zones) × (v < zones)) → ((v : ℕ) → v < zones → In-order order n v)
+pub pass_begun : {E : ℕ → ℕ → Type 0} (order root : ℕ → ℕ) {zones n : ℕ}
+    → ((u v : ℕ) → E u v → (u < zones) × (v < zones)) → ((v : ℕ) → v < zones → InOrder order n v)
     → ((v : ℕ) → v < zones → root v ≡ 0) → Pass E order root zones n
-pass-begun order root entries all clear = record {
+pass_begun order root entries all clear = record {
   taken = λ v h e. all v h;
   closed = λ u v e h. clear v (entries u v e).1;
   sound = λ v r l e. absurd (omega (arith, clear v l));
@@ -139,13 +139,13 @@ pass-begun order root entries all clear = record {
 }
 
 -- The zone at place k has its root already: the pass has taken the place.
-pub pass-skip : {E : ℕ → ℕ → Type 0} {order root : ℕ → ℕ} {zones k : ℕ} → Pass E order root zones (k + 1)
+pub pass_skip : {E : ℕ → ℕ → Type 0} {order root : ℕ → ℕ} {zones k : ℕ} → Pass E order root zones (k + 1)
     → (root (order k) ≡ 0 → ⊥) → Pass E order root zones k
-pass-skip {order = order} {root = root} {zones = zones} {k = k} S h =
-    record { taken = taken-now; closed = S.closed; sound = S.sound; complete = S.complete }
+pass_skip {order = order} {root = root} {zones = zones} {k = k} S h =
+    record { taken = taken_now; closed = S.closed; sound = S.sound; complete = S.complete }
   where
-    taken-now : (v : ℕ) → v < zones → root v ≡ 0 → In-order order k v
-    taken-now v l e =
+    taken_now : (v : ℕ) → v < zones → root v ≡ 0 → InOrder order k v
+    taken_now v l e =
         let s = S.taken v l e in
         elim (below? s.at k) [
           | inl b ↦ record { at = s.at; low = b; is = s.is }
@@ -155,22 +155,22 @@ pass-skip {order = order} {root = root} {zones = zones} {k = k} S h =
         ]
 
 -- Where all places are taken, every zone has a root.
-pub pass-named : {E : ℕ → ℕ → Type 0} {order root : ℕ → ℕ} {zones : ℕ} → Pass E order root zones 0
+pub pass_named : {E : ℕ → ℕ → Type 0} {order root : ℕ → ℕ} {zones : ℕ} → Pass E order root zones 0
     → (v : ℕ) → v < zones → root v ≡ 0 → ⊥
-pass-named S v h e = let s = S.taken v h e in omega (arith, s.low)
+pass_named S v h e = let s = S.taken v h e in omega (arith, s.low)
 
 -- Where all places are taken, two zones have one root exactly where each leads to the other.
-pub pass-ended : {E : ℕ → ℕ → Type 0} {order root : ℕ → ℕ} {zones : ℕ} → Pass E order root zones 0
+pub pass_ended : {E : ℕ → ℕ → Type 0} {order root : ℕ → ℕ} {zones : ℕ} → Pass E order root zones 0
     → (u v : ℕ) → u < zones → v < zones → (root u ≡ root v) ↔ Mutual E u v
-pass-ended {E} {order} {root} {zones} S u v hu hv = (one, λ t. sym (S.complete u v hu hv (pass-named S u hu) t))
+pass_ended {E} {order} {root} {zones} S u v hu hv = (one, λ t. sym (S.complete u v hu hv (pass_named S u hu) t))
   where
     one : root u ≡ root v → Mutual E u v
     one e =
-        let a = (S.sound u (pred (root u)) hu (omega (arith, pass-named S u hu))).1.1 in
-        let b = (S.sound v (pred (root u)) hv (omega (arith, pass-named S u hu))).1.1 in
-        (run-trans a.1 b.0, run-trans b.1 a.0)
+        let a = (S.sound u (pred (root u)) hu (omega (arith, pass_named S u hu))).1.1 in
+        let b = (S.sound v (pred (root u)) hv (omega (arith, pass_named S u hu))).1.1 in
+        (run_trans a.1 b.0, run_trans b.1 a.0)
 
 -- A free zone leads to no zone that has a root: roots are given in topological order.
-pub pass-after : {E : ℕ → ℕ → Type 0} {order root : ℕ → ℕ} {zones k : ℕ} → Pass E order root zones k
+pub pass_after : {E : ℕ → ℕ → Type 0} {order root : ℕ → ℕ} {zones k : ℕ} → Pass E order root zones k
     → {z r : ℕ} → root z ≡ 0 → (root r ≡ 0 → ⊥) → Run E z r → ⊥
-pass-after {root = root} S e h p = h (free_on root S.closed p e)
+pass_after {root = root} S e h p = h (free_on root S.closed p e)

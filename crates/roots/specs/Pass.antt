@@ -9,7 +9,7 @@
 use Rattle.std.specs.Prelude.{◌≡◌, ℕ, ◌+◌, ◌<◌}
 use Rattle.arranged.specs.Rows.{Run}
 use Rattle.search.specs.Marking.{Queued}
-use Rattle.descent.specs.Order.{In-order}
+use Rattle.descent.specs.Order.{InOrder}
 
 -- each leads to the other
 abbrev pub Mutual : (ℕ → ℕ → Type 0) → ℕ → ℕ → Type 0
@@ -22,7 +22,7 @@ pub data Back (E : ℕ → ℕ → Type 0) (Free : ℕ → Type 0) (z : ℕ) : �
 
 -- the second pass when the places from k on are done
 pub record Pass (E : ℕ → ℕ → Type 0) (order root : ℕ → ℕ) (zones k : ℕ) : Type 0 where
-  pub taken : (v : ℕ) → v < zones → root v ≡ 0 → In-order order k v
+  pub taken : (v : ℕ) → v < zones → root v ≡ 0 → InOrder order k v
   pub closed : (u v : ℕ) → E u v → root u ≡ 0 → root v ≡ 0
   pub sound : (v r : ℕ) → v < zones → root v ≡ r + 1 → (r < zones) × ((root r ≡ r + 1) × Mutual E r v)
   pub complete : (u v : ℕ) → u < zones → v < zones → (root u ≡ 0 → ⊥) → Mutual E u v → root v ≡ root u

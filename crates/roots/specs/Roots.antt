@@ -19,12 +19,12 @@ pub record Collectable (w : List ℕ) (R T : RowsAt) (O : OrderAt) (S : SearchAt
   pub zones : T.zones ≡ R.zones
   pub laid : Laid w T S
   pub clear : (v : ℕ) → v < T.zones → cell w S.marks v ≡ 0
-  pub order-behind : S.queue + T.zones ≤ O.order
-  pub order-fits : O.order + T.zones ≤ length w
+  pub order_behind : S.queue + T.zones ≤ O.order
+  pub order_fits : O.order + T.zones ≤ length w
   pub forward : Sound (rows_of w R)
   pub finished : Finished w R O
-  pub turn-to : (a b : ℕ) → Entry (rows_of w R) a b → Entry (rows_of w T) b a
-  pub turn-back : (a b : ℕ) → Entry (rows_of w T) b a → Entry (rows_of w R) a b
+  pub turn_to : (a b : ℕ) → Entry (rows_of w R) a b → Entry (rows_of w T) b a
+  pub turn_back : (a b : ℕ) → Entry (rows_of w T) b a → Entry (rows_of w R) a b
 
 -- the second pass when the places from k on of the order are done and the queue ends at `tail`
 pub record Collecting (w₀ w : List ℕ) (R T : RowsAt) (O : OrderAt) (S : SearchAt) (k tail : ℕ) : Type 0 where

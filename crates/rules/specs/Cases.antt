@@ -1,11 +1,11 @@
 -- The proved cases: one constant table, one test that is computed over all its rows, one statement.
 --   rows             document 01's lettered cases A to L (L is 3 at 2 by document 02, No. 1), eight networks of shapes
 --                    that these leave out, and networks with withdrawn zones (document 02, No. 2)
---   row-right r      whether the definitions give what the row wants: links in order and counts, a skeleton's file, a
+--   row_right r      whether the definitions give what the row wants: links in order and counts, a skeleton's file, a
 --                    refusal's number and place, or the answer to a question
---   cases-right      every row is right
---   kinds-right      the kinds of refusal have the numbers of the documents
---   row-numbers r    the row as the numbers of a constant array, as the crate `cases` holds it and runs it
+--   cases_right      every row is right
+--   kinds_right      the kinds of refusal have the numbers of the documents
+--   row_numbers r    the row as the numbers of a constant array, as the crate `cases` holds it and runs it
 -- An arc is one number, 0x23 for the arc from 2 to 3; a link is one number, 0x150 for the chain link from 5 to 0.
 use Rattle.std.specs.Prelude.{ℕ, zero, suc, ◌+◌, ◌-◌, ◌*◌, ◌/◌, ◌%◌, ◌≡◌, refl, List, [], ◌∷◌, ◌++◌, map, Bool, true, false, ◌&&◌, length, get_or, replicate, eqb}
 use Rattle.rules.specs.declared.TroubleKind.TheVariants.{
@@ -25,13 +25,13 @@ use Rattle.rules.specs.declared.TroubleKind.TheVariants.{
   Gone,
 }
 use Rattle.rules.specs.Lists.{span, every}
-use Rattle.rules.specs.Answers.{trouble-number, yes-number}
-use Rattle.rules.specs.Network.{Arc, ◌⟶◌, arc-tails, arc-heads, Network, network-with, reaches}
+use Rattle.rules.specs.Answers.{trouble_number, yes_number}
+use Rattle.rules.specs.Network.{Arc, ◌⟶◌, arc_tails, arc_heads, Network, network_with, reaches}
 use Rattle.rules.specs.Components.{sources, sinks, alone}
 use Rattle.rules.specs.Skeleton.{skeleton}
-use Rattle.rules.specs.Plan.{Link, why-number, plan, plan-pairs, plan-need, plan-values}
-use Rattle.rules.specs.File.{file-bytes, file-at}
-use Rattle.rules.specs.Calls.{found-says, says, arcs-of, plan-trouble, reach-trouble}
+use Rattle.rules.specs.Plan.{Link, why_number, plan, plan_pairs, plan_need, plan_values}
+use Rattle.rules.specs.File.{file_bytes, file_at}
+use Rattle.rules.specs.Calls.{found_says, says, arcs_of, plan_trouble, reach_trouble}
 
 -- a row: document 01's letter (45, a dash, where it has none), what is asked for (0 the plan, 1 the skeleton, 2
 -- reading a file, 3 a plan that is refused, 4 whether a zone reaches another), the zone count, the arcs or the file's
@@ -48,8 +48,8 @@ pub record Row : Type 0 where
   pub told : List ℕ
 
 -- a row of document 02, No. 2, which gives no letters
-abbrev gone-row : ℕ → ℕ → List ℕ → List ℕ → List ℕ → List ℕ → Row
-gone-row asks zones input gone output told =
+abbrev gone_row : ℕ → ℕ → List ℕ → List ℕ → List ℕ → List ℕ → Row
+gone_row asks zones input gone output told =
     record { letter = 45; asks = asks; zones = zones; input = input; gone = gone; output = output; told = told }
 
 -- a row with no withdrawn number
@@ -141,181 +141,181 @@ rows =
     (0x103 ∷ 0x131 ∷ []) (1 ∷ 1 ∷ 1 ∷ 1 ∷ 2 ∷ [])
     ∷
     -- three zones, 1 withdrawn, no arc: the other two are alone
-    gone-row 0 3 [] (1 ∷ [])
+    gone_row 0 3 [] (1 ∷ [])
     (0x102 ∷ 0x120 ∷ []) (0 ∷ 0 ∷ 2 ∷ 0 ∷ 2 ∷ [])
     ∷
     -- one zone remains: strong
-    gone-row 0 3 [] (0 ∷ 2 ∷ [])
+    gone_row 0 3 [] (0 ∷ 2 ∷ [])
     [] (0 ∷ 0 ∷ 1 ∷ 0 ∷ 0 ∷ [])
     ∷
     -- the lowest number is withdrawn, and one in the middle
-    gone-row 0 5 (0x12 ∷ []) (0 ∷ 3 ∷ [])
+    gone_row 0 5 (0x12 ∷ []) (0 ∷ 3 ∷ [])
     (0x124 ∷ 0x141 ∷ []) (1 ∷ 1 ∷ 1 ∷ 1 ∷ 2 ∷ [])
     ∷
     -- turned round, alone, and the highest number withdrawn
-    gone-row 0 5 (0x10 ∷ 0x20 ∷ []) (4 ∷ [])
+    gone_row 0 5 (0x10 ∷ 0x20 ∷ []) (4 ∷ [])
     (0x121 ∷ 0x132 ∷ 0x103 ∷ []) (2 ∷ 1 ∷ 1 ∷ 1 ∷ 3 ∷ [])
     ∷
     -- the zones that remain are strong
-    gone-row 0 4 (0x13 ∷ 0x31 ∷ []) (0 ∷ 2 ∷ [])
+    gone_row 0 4 (0x13 ∷ 0x31 ∷ []) (0 ∷ 2 ∷ [])
     [] (0 ∷ 0 ∷ 1 ∷ 0 ∷ 0 ∷ [])
     ∷
     -- a skeleton with a withdrawn zone in the middle of a component's numbers
-    gone-row 1 4 (0x02 ∷ 0x20 ∷ 0x03 ∷ 0x23 ∷ []) (1 ∷ [])
+    gone_row 1 4 (0x02 ∷ 0x20 ∷ 0x03 ∷ 0x23 ∷ []) (1 ∷ [])
     (0x04 ∷ 0x03 ∷ 0x00 ∷ 0x02 ∷ 0x00 ∷ 0x03 ∷ 0x02 ∷ 0x00 ∷ []) (3 ∷ [])
     ∷
     -- LIST at 0: out of range
-    gone-row 3 3 (0x01 ∷ []) (3 ∷ [])
+    gone_row 3 3 (0x01 ∷ []) (3 ∷ [])
     [] (12 ∷ 0 ∷ [])
     ∷
     -- LIST at 1: not above the one before
-    gone-row 3 7 (0x01 ∷ []) (4 ∷ 3 ∷ [])
+    gone_row 3 7 (0x01 ∷ []) (4 ∷ 3 ∷ [])
     [] (12 ∷ 1 ∷ [])
     ∷
     -- LIST at 1: the same number again
-    gone-row 3 7 (0x01 ∷ []) (4 ∷ 4 ∷ [])
+    gone_row 3 7 (0x01 ∷ []) (4 ∷ 4 ∷ [])
     [] (12 ∷ 1 ∷ [])
     ∷
     -- LIST at 0: out of range comes before the order of the next
-    gone-row 3 7 (0x01 ∷ []) (9 ∷ 4 ∷ [])
+    gone_row 3 7 (0x01 ∷ []) (9 ∷ 4 ∷ [])
     [] (12 ∷ 0 ∷ [])
     ∷
     -- NONE: all are withdrawn
-    gone-row 3 2 [] (0 ∷ 1 ∷ [])
+    gone_row 3 2 [] (0 ∷ 1 ∷ [])
     [] (13 ∷ 0 ∷ [])
     ∷
     -- GONE of a tail
-    gone-row 3 3 (0x01 ∷ 0x20 ∷ []) (2 ∷ [])
+    gone_row 3 3 (0x01 ∷ 0x20 ∷ []) (2 ∷ [])
     [] (14 ∷ 1 ∷ [])
     ∷
     -- GONE of a head
-    gone-row 3 3 (0x01 ∷ 0x12 ∷ []) (2 ∷ [])
+    gone_row 3 3 (0x01 ∷ 0x12 ∷ []) (2 ∷ [])
     [] (14 ∷ 1 ∷ [])
     ∷
     -- SELF comes before GONE
-    gone-row 3 3 (0x01 ∷ 0x22 ∷ []) (2 ∷ [])
+    gone_row 3 3 (0x01 ∷ 0x22 ∷ []) (2 ∷ [])
     [] (7 ∷ 1 ∷ [])
     ∷
     -- GONE of an arc comes before RANGE of a later one
-    gone-row 3 3 (0x20 ∷ 0x31 ∷ []) (2 ∷ [])
+    gone_row 3 3 (0x20 ∷ 0x31 ∷ []) (2 ∷ [])
     [] (14 ∷ 0 ∷ [])
     ∷
     -- a question between two zones that remain
-    gone-row 4 3 (0x02 ∷ []) (1 ∷ [])
+    gone_row 4 3 (0x02 ∷ []) (1 ∷ [])
     (0 ∷ 2 ∷ []) (0 ∷ 0 ∷ 1 ∷ [])
     ∷
     -- GONE of the first zone of a question
-    gone-row 4 3 (0x02 ∷ []) (1 ∷ [])
+    gone_row 4 3 (0x02 ∷ []) (1 ∷ [])
     (1 ∷ 0 ∷ []) (14 ∷ 1 ∷ 0 ∷ [])
     ∷
     -- GONE of the second
-    gone-row 4 3 (0x02 ∷ []) (1 ∷ [])
+    gone_row 4 3 (0x02 ∷ []) (1 ∷ [])
     (0 ∷ 1 ∷ []) (14 ∷ 1 ∷ 0 ∷ [])
     ∷
     -- GONE of a zone and itself
-    gone-row 4 3 (0x02 ∷ []) (1 ∷ [])
+    gone_row 4 3 (0x02 ∷ []) (1 ∷ [])
     (1 ∷ 1 ∷ []) (14 ∷ 1 ∷ 0 ∷ [])
     ∷
     -- HEAD of the second comes before GONE of the first
-    gone-row 4 3 (0x02 ∷ []) (1 ∷ [])
+    gone_row 4 3 (0x02 ∷ []) (1 ∷ [])
     (1 ∷ 9 ∷ []) (11 ∷ 1 ∷ 0 ∷ [])
     ∷ []
 
 -- whether two lists of numbers are the same
-abbrev same-list : List ℕ → List ℕ → Bool
-same-list [] [] = true
-same-list [] (y ∷ ys) = false
-same-list (x ∷ xs) [] = false
-same-list (x ∷ xs) (y ∷ ys) = eqb x y && same-list xs ys
+abbrev same_list : List ℕ → List ℕ → Bool
+same_list [] [] = true
+same_list [] (y ∷ ys) = false
+same_list (x ∷ xs) [] = false
+same_list (x ∷ xs) (y ∷ ys) = eqb x y && same_list xs ys
 
 -- 0x23 is the arc from 2 to 3
-abbrev code-arc : ℕ → Arc
-code-arc x = (x / 16) ⟶ (x % 16)
+abbrev code_arc : ℕ → Arc
+code_arc x = (x / 16) ⟶ (x % 16)
 
 -- the chain link from 5 to 0 is 0x150
-abbrev link-code : Link → ℕ
-link-code l = why-number l.why * 256 + l.start * 16 + l.end
+abbrev link_code : Link → ℕ
+link_code l = why_number l.why * 256 + l.start * 16 + l.end
 
 -- the network of a row
-abbrev row-network : Row → Network
-row-network r = network-with r.zones (map code-arc r.input) r.gone
+abbrev row_network : Row → Network
+row_network r = network_with r.zones (map code_arc r.input) r.gone
 
 -- its tails and its heads
-abbrev row-tails : Row → List ℕ
-row-tails r = arc-tails (map code-arc r.input)
+abbrev row_tails : Row → List ℕ
+row_tails r = arc_tails (map code_arc r.input)
 
-abbrev row-heads : Row → List ℕ
-row-heads r = arc-heads (map code-arc r.input)
+abbrev row_heads : Row → List ℕ
+row_heads r = arc_heads (map code_arc r.input)
 
 -- what is lent to a row's call, as much as any row asks for
 abbrev lent : List ℕ
 lent = replicate 200 7
 
 -- the plan has the links, in order, and the counts
-plan-right : Row → Bool
-unfolding plan sources sinks alone plan-pairs plan-need
-plan-right r =
-    let N = row-network r in
-    same-list (map link-code (plan N)) r.output
-    && same-list (plan-values N) r.told
+plan_right : Row → Bool
+unfolding plan sources sinks alone plan_pairs plan_need
+plan_right r =
+    let N = row_network r in
+    same_list (map link_code (plan N)) r.output
+    && same_list (plan_values N) r.told
 
 -- the skeleton's file has the bytes, and the skeleton the arc count
-skeleton-right : Row → Bool
-unfolding skeleton file-bytes
-skeleton-right r =
-    let es = skeleton (row-network r) in
-    same-list (file-bytes (record { zones = r.zones; arcs = es })) r.output
-    && same-list (length es ∷ []) r.told
+skeleton_right : Row → Bool
+unfolding skeleton file_bytes
+skeleton_right r =
+    let es = skeleton (row_network r) in
+    same_list (file_bytes (record { zones = r.zones; arcs = es })) r.output
+    && same_list (length es ∷ []) r.told
 
 -- reading the file is refused with the number, at the place
-file-right : Row → Bool
-unfolding file-at
-file-right r =
-    let t = found-says (file-at r.input 0 0) in
-    same-list (t.number ∷ t.place ∷ []) r.told
+file_right : Row → Bool
+unfolding file_at
+file_right r =
+    let t = found_says (file_at r.input 0 0) in
+    same_list (t.number ∷ t.place ∷ []) r.told
 
 -- the plan is refused with the number, at the place
-refused-right : Row → Bool
-unfolding plan-trouble arcs-of
-refused-right r =
-    let t = says 0 (plan-trouble r.zones (row-tails r) (row-heads r) r.gone lent lent lent lent) [] in
-    same-list (t.number ∷ t.place ∷ []) r.told
+refused_right : Row → Bool
+unfolding plan_trouble arcs_of
+refused_right r =
+    let t = says 0 (plan_trouble r.zones (row_tails r) (row_heads r) r.gone lent lent lent lent) [] in
+    same_list (t.number ∷ t.place ∷ []) r.told
 
 -- the question is answered, or refused with the number, at the place
-question-right : Row → Bool
-unfolding reach-trouble arcs-of reaches
-question-right r =
+question_right : Row → Bool
+unfolding reach_trouble arcs_of reaches
+question_right r =
     let a = get_or r.output 0 0 in
     let b = get_or r.output 1 0 in
-    let yes = yes-number (reaches (row-network r) a b) in
-    let t = says 1 (reach-trouble r.zones (row-tails r) (row-heads r) r.gone a b lent) (yes ∷ []) in
-    same-list (t.number ∷ t.place ∷ t.values) r.told
+    let yes = yes_number (reaches (row_network r) a b) in
+    let t = says 1 (reach_trouble r.zones (row_tails r) (row_heads r) r.gone a b lent) (yes ∷ []) in
+    same_list (t.number ∷ t.place ∷ t.values) r.told
 
 -- whether the definitions give what a row wants that asks for this
-asked-right : ℕ → Row → Bool
-unfolding plan-right skeleton-right file-right refused-right question-right
-asked-right zero r = plan-right r
-asked-right (suc zero) r = skeleton-right r
-asked-right (suc (suc zero)) r = file-right r
-asked-right (suc (suc (suc zero))) r = refused-right r
-asked-right (suc (suc (suc (suc k)))) r = question-right r
+asked_right : ℕ → Row → Bool
+unfolding plan_right skeleton_right file_right refused_right question_right
+asked_right zero r = plan_right r
+asked_right (suc zero) r = skeleton_right r
+asked_right (suc (suc zero)) r = file_right r
+asked_right (suc (suc (suc zero))) r = refused_right r
+asked_right (suc (suc (suc (suc k)))) r = question_right r
 
 -- whether the definitions give what the row wants
-pub row-right : Row → Bool
-unfolding asked-right
-row-right r = asked-right r.asks r
+pub row_right : Row → Bool
+unfolding asked_right
+row_right r = asked_right r.asks r
 
 -- every row of the table is right
-pub cases-right : every row-right rows ≡ true
-unfolding row-right
-cases-right = refl
+pub cases_right : every row_right rows ≡ true
+unfolding row_right
+cases_right = refl
 
 -- the kinds of refusal, in the order of document 01's table and then of document 02, are numbered from 1 on
-pub kinds-right :
-    map trouble-number
+pub kinds_right :
+    map trouble_number
     (Short ∷ Long ∷ Loose ∷ Zones ∷ Arcs ∷ Range ∷ SelfArc ∷ Extra ∷ Room ∷ Pair ∷ Head ∷ ZoneList ∷ None ∷ Gone ∷ [])
     ≡ span 1 14
-kinds-right = refl
+kinds_right = refl
 
 -- a list with zeros after it, n in all
 abbrev padded : ℕ → List ℕ → List ℕ
@@ -324,8 +324,8 @@ padded n xs = xs ++ replicate (n - length xs) 0
 -- a row as four lists of ten numbers, as a constant array holds it: letter, what is asked for, zone count, how many
 -- numbers are given, how many are wanted, and the answer's numbers; then what is given; then what is wanted; then how
 -- many numbers are withdrawn, and these
-abbrev pub row-numbers : Row → List (List ℕ)
-row-numbers r =
+abbrev pub row_numbers : Row → List (List ℕ)
+row_numbers r =
     padded 10 (r.letter ∷ r.asks ∷ r.zones ∷ length r.input ∷ length r.output ∷ r.told)
     ∷ padded 10 r.input
     ∷ padded 10 r.output

@@ -1,8 +1,8 @@
 -- A network, and which zone reaches which (document 01, "What the tool covers"; document 02, No. 2).
---   a ⟶ b           the arc from zone a to zone b;   tails-of, heads-of   the tails and the heads of arcs
+--   a ⟶ b           the arc from zone a to zone b;   tails-of, heads_of   the tails and the heads of arcs
 --   Network         zones, ascending, and arcs, in any order and with repeats
---   network-of n es document 01's network: every number below n is a zone
---   network-with n es gone   document 02's: the zones are those that remain once the numbers of `gone` are withdrawn
+--   network_of n es document 01's network: every number below n is a zone
+--   network_with n es gone   document 02's: the zones are those that remain once the numbers of `gone` are withdrawn
 --   added N es      the network with more arcs
 --   Reach N a b     a reaches b: the meaning;   reaches N a b: the test
 --   Strong N        every zone reaches every zone: the meaning;   strong N: the test
@@ -24,11 +24,11 @@ abbrev pub ◌⟶◌ : ℕ → ℕ → Arc
 a ⟶ b = record { tail = a; head = b }
 
 -- the tails of arcs, and the heads
-abbrev pub arc-tails : List Arc → List ℕ
-arc-tails es = map (λ (e : Arc). e.tail) es
+abbrev pub arc_tails : List Arc → List ℕ
+arc_tails es = map (λ (e : Arc). e.tail) es
 
-abbrev pub arc-heads : List Arc → List ℕ
-arc-heads es = map (λ (e : Arc). e.head) es
+abbrev pub arc_heads : List Arc → List ℕ
+arc_heads es = map (λ (e : Arc). e.head) es
 
 -- a network: its zones, ascending, and its arcs, in any order and with repeats
 pub record Network : Type 0 where
@@ -36,16 +36,16 @@ pub record Network : Type 0 where
   pub arcs : List Arc
 
 -- document 01's network: zones are numbered from 0, and every number below the zone count is a zone
-abbrev pub network-of : ℕ → List Arc → Network
-network-of n es = record { zones = span 0 n; arcs = es }
+abbrev pub network_of : ℕ → List Arc → Network
+network_of n es = record { zones = span 0 n; arcs = es }
 
 -- the zones that remain: the numbers below the zone count that are not withdrawn, ascending
 abbrev pub remaining : ℕ → List ℕ → List ℕ
 remaining n gone = keep (λ z. not (listed gone z)) (span 0 n)
 
 -- document 02's network: the zones are those that remain
-abbrev pub network-with : ℕ → List Arc → List ℕ → Network
-network-with n es gone = record { zones = remaining n gone; arcs = es }
+abbrev pub network_with : ℕ → List Arc → List ℕ → Network
+network_with n es gone = record { zones = remaining n gone; arcs = es }
 
 -- the network with more arcs
 abbrev pub added : Network → List Arc → Network
@@ -77,13 +77,13 @@ abbrev pub Strong : Network → Type 0
 Strong N = (a b : ℕ) → In a N.zones → In b N.zones → Reach N a b
 
 -- whether some arc leads from a to b
-unfoldable pub has-arc : List Arc → ℕ → ℕ → Bool
-has-arc es a b = any (λ (e : Arc). eqb e.tail a && eqb e.head b) es
+unfoldable pub has_arc : List Arc → ℕ → ℕ → Bool
+has_arc es a b = any (λ (e : Arc). eqb e.tail a && eqb e.head b) es
 
 -- whether a run of one arc or more leads from a to b with all its inner zones among ks
 unfoldable pub via : List Arc → List ℕ → ℕ → ℕ → Bool
-unfolding has-arc
-via es [] a b = has-arc es a b
+unfolding has_arc
+via es [] a b = has_arc es a b
 via es (k ∷ ks) a b =
     elim (via es ks a b) [
       | true ↦ true

@@ -1,5 +1,5 @@
 -- A number of a network file (document 01, "The network file").
---   number-bytes n    the bytes that a number is written as, lowest group of seven bits first
+--   number_bytes n    the bytes that a number is written as, lowest group of seven bits first
 --   Reading           what reading at a place finds: a value and the place after it, or the first trouble
 --   number_at s at    reading the number at a place of the bytes s
 -- A byte 0 to 127 ends a number, 128 to 255 says that another group follows. Each group asks for a byte of its own, so
@@ -12,8 +12,8 @@ use Rattle.rules.specs.declared.Trouble.{Trouble}
 use Rattle.rules.specs.Answers.{refusal}
 
 -- the bytes of a number: one, two or three groups, and the last of several is not zero
-unfoldable pub number-bytes : ℕ → List ℕ
-number-bytes n =
+unfoldable pub number_bytes : ℕ → List ℕ
+number_bytes n =
     cond (ltb n 128) (n ∷ [])
     (cond (ltb n 16384) ((128 + n % 128) ∷ (n / 128) ∷ [])
     ((128 + n % 128) ∷ (128 + n / 128 % 128) ∷ (n / 16384) ∷ []))

@@ -1,9 +1,9 @@
 -- Two troubles at once: of each two neighbouring tests of the documents' order, the earlier is told. No definition to
 -- believe: outside examples, computed.
---   both-fail, first-told   what calls find that are handed a network with two troubles, and what is to be told
---   orders-right            they are the same
---   files-fail, files-told  what reading finds in files with two troubles, and what is to be told
---   files-right             they are the same
+--   both_fail, first_told   what calls find that are handed a network with two troubles, and what is to be told
+--   orders_right            they are the same
+--   files_fail, files_told  what reading finds in files with two troubles, and what is to be told
+--   files_right             they are the same
 -- Document 01: "Order: PAIR, ZONES, ARCS, then arc by arc RANGE (tail, then head) and SELF, then the two zones of a
 -- reach question (RANGE), then ROOM", and of a file "the first trouble from left to right. A number is tested for 1, 2,
 -- 3 and then for its value." Document 02, No. 1: HEAD, "tested and placed where RANGE was for a head"; No. 2: LIST and
@@ -29,85 +29,85 @@ use Rattle.rules.specs.declared.TroubleKind.TheVariants.{
 use Rattle.rules.specs.declared.Trouble.{Trouble}
 use Rattle.rules.specs.Answers.{refusal}
 use Rattle.rules.specs.Number.{Reading, got, bad}
-use Rattle.rules.specs.File.{Given, file-at}
-use Rattle.rules.specs.Calls.{arcs-of, written, write-trouble, strong-trouble, reach-trouble}
-use Rattle.rules.specs.Calls.{skeleton-trouble, plan-trouble, records-trouble}
+use Rattle.rules.specs.File.{Given, file_at}
+use Rattle.rules.specs.Calls.{arcs_of, written, write_trouble, strong_trouble, reach_trouble}
+use Rattle.rules.specs.Calls.{skeleton_trouble, plan_trouble, records_trouble}
 
 -- networks with two troubles, of two tests that stand one after the other, and what the calls find
-abbrev pub both-fail : List (Option Trouble)
-unfolding arcs-of written write-trouble strong-trouble reach-trouble skeleton-trouble plan-trouble records-trouble
-both-fail =
+abbrev pub both_fail : List (Option Trouble)
+unfolding arcs_of written write_trouble strong_trouble reach_trouble skeleton_trouble plan_trouble records_trouble
+both_fail =
     -- lists of different lengths, and no zone
-    strong-trouble 0 (0 ∷ []) [] [] []
+    strong_trouble 0 (0 ∷ []) [] [] []
     ∷
     -- no zone, and 4,097 arcs
-    strong-trouble 0 (replicate 4097 0) (replicate 4097 0) [] []
+    strong_trouble 0 (replicate 4097 0) (replicate 4097 0) [] []
     ∷
     -- 4,097 arcs, and a tail that is no zone
-    strong-trouble 2 (replicate 4097 2) (replicate 4097 1) [] []
+    strong_trouble 2 (replicate 4097 2) (replicate 4097 1) [] []
     ∷
     -- an arc whose tail and head are no zones
-    strong-trouble 2 (0 ∷ 2 ∷ []) (1 ∷ 3 ∷ []) [] []
+    strong_trouble 2 (0 ∷ 2 ∷ []) (1 ∷ 3 ∷ []) [] []
     ∷
     -- an arc from 2 to itself, where 2 is no zone
-    strong-trouble 2 (0 ∷ 2 ∷ []) (1 ∷ 2 ∷ []) [] []
+    strong_trouble 2 (0 ∷ 2 ∷ []) (1 ∷ 2 ∷ []) [] []
     ∷
     -- a head that is no zone, and a later tail that is none
-    strong-trouble 2 (0 ∷ 1 ∷ 2 ∷ []) (1 ∷ 2 ∷ 0 ∷ []) [] []
+    strong_trouble 2 (0 ∷ 1 ∷ 2 ∷ []) (1 ∷ 2 ∷ 0 ∷ []) [] []
     ∷
     -- an arc from a zone to itself, and a later one whose head is no zone
-    strong-trouble 2 (0 ∷ 1 ∷ 0 ∷ []) (1 ∷ 1 ∷ 2 ∷ []) [] []
+    strong_trouble 2 (0 ∷ 1 ∷ 0 ∷ []) (1 ∷ 1 ∷ 2 ∷ []) [] []
     ∷
     -- an arc from a zone to itself, and a question about what is no zone
-    reach-trouble 2 (0 ∷ 1 ∷ []) (1 ∷ 1 ∷ []) [] 2 0 []
+    reach_trouble 2 (0 ∷ 1 ∷ []) (1 ∷ 1 ∷ []) [] 2 0 []
     ∷
     -- a question from what is no zone to what is none
-    reach-trouble 2 (0 ∷ []) (1 ∷ []) [] 9 9 []
+    reach_trouble 2 (0 ∷ []) (1 ∷ []) [] 9 9 []
     ∷
     -- a question to what is no zone, and no work memory
-    reach-trouble 2 (0 ∷ []) (1 ∷ []) [] 0 9 []
+    reach_trouble 2 (0 ∷ []) (1 ∷ []) [] 0 9 []
     ∷
     -- 4,097 arcs, and a withdrawn number out of range
-    strong-trouble 2 (replicate 4097 0) (replicate 4097 1) (2 ∷ []) []
+    strong_trouble 2 (replicate 4097 0) (replicate 4097 1) (2 ∷ []) []
     ∷
     -- a withdrawn number out of range, and one behind it that is not above it
-    strong-trouble 7 [] [] (9 ∷ 4 ∷ []) []
+    strong_trouble 7 [] [] (9 ∷ 4 ∷ []) []
     ∷
     -- the same withdrawn number twice, and all zones withdrawn
-    strong-trouble 2 [] [] (0 ∷ 1 ∷ 1 ∷ []) []
+    strong_trouble 2 [] [] (0 ∷ 1 ∷ 1 ∷ []) []
     ∷
     -- all zones withdrawn, and a tail that is no zone
-    strong-trouble 2 (2 ∷ []) (0 ∷ []) (0 ∷ 1 ∷ []) []
+    strong_trouble 2 (2 ∷ []) (0 ∷ []) (0 ∷ 1 ∷ []) []
     ∷
     -- an arc from a withdrawn zone to itself
-    strong-trouble 3 (0 ∷ 2 ∷ []) (1 ∷ 2 ∷ []) (2 ∷ []) []
+    strong_trouble 3 (0 ∷ 2 ∷ []) (1 ∷ 2 ∷ []) (2 ∷ []) []
     ∷
     -- a withdrawn head, and a later tail that is no zone
-    strong-trouble 3 (0 ∷ 1 ∷ 3 ∷ []) (1 ∷ 2 ∷ 0 ∷ []) (2 ∷ []) []
+    strong_trouble 3 (0 ∷ 1 ∷ 3 ∷ []) (1 ∷ 2 ∷ 0 ∷ []) (2 ∷ []) []
     ∷
     -- a withdrawn tail, and a question about what is no zone
-    reach-trouble 3 (0 ∷ 2 ∷ []) (1 ∷ 0 ∷ []) (2 ∷ []) 9 0 []
+    reach_trouble 3 (0 ∷ 2 ∷ []) (1 ∷ 0 ∷ []) (2 ∷ []) 9 0 []
     ∷
     -- a question from a withdrawn zone to what is no zone
-    reach-trouble 3 (0 ∷ []) (1 ∷ []) (2 ∷ []) 2 9 []
+    reach_trouble 3 (0 ∷ []) (1 ∷ []) (2 ∷ []) 2 9 []
     ∷
     -- a question to a withdrawn zone, and no work memory
-    reach-trouble 3 (0 ∷ []) (1 ∷ []) (2 ∷ []) 0 2 []
+    reach_trouble 3 (0 ∷ []) (1 ∷ []) (2 ∷ []) 0 2 []
     ∷
     -- a withdrawn tail, and no room
-    write-trouble 3 (0 ∷ 2 ∷ []) (1 ∷ 0 ∷ []) (2 ∷ []) []
+    write_trouble 3 (0 ∷ 2 ∷ []) (1 ∷ 0 ∷ []) (2 ∷ []) []
     ∷
     -- an arc from a zone to itself, and no room
-    write-trouble 2 (0 ∷ 1 ∷ []) (1 ∷ 1 ∷ []) [] []
-    ∷ strong-trouble 2 (0 ∷ 1 ∷ []) (1 ∷ 1 ∷ []) [] []
-    ∷ skeleton-trouble 2 (0 ∷ 1 ∷ []) (1 ∷ 1 ∷ []) [] [] [] []
-    ∷ plan-trouble 2 (0 ∷ 1 ∷ []) (1 ∷ 1 ∷ []) [] [] [] [] []
-    ∷ records-trouble 2 (0 ∷ 1 ∷ []) (1 ∷ 1 ∷ []) [] 0 []
+    write_trouble 2 (0 ∷ 1 ∷ []) (1 ∷ 1 ∷ []) [] []
+    ∷ strong_trouble 2 (0 ∷ 1 ∷ []) (1 ∷ 1 ∷ []) [] []
+    ∷ skeleton_trouble 2 (0 ∷ 1 ∷ []) (1 ∷ 1 ∷ []) [] [] [] []
+    ∷ plan_trouble 2 (0 ∷ 1 ∷ []) (1 ∷ 1 ∷ []) [] [] [] [] []
+    ∷ records_trouble 2 (0 ∷ 1 ∷ []) (1 ∷ 1 ∷ []) [] 0 []
     ∷ []
 
 -- what the documents' order says of each
-abbrev pub first-told : List (Option Trouble)
-first-told =
+abbrev pub first_told : List (Option Trouble)
+first_told =
     some (refusal Pair 0)
     ∷ some (refusal Zones 0)
     ∷ some (refusal Arcs 0)
@@ -131,61 +131,61 @@ first-told =
     ∷ replicate 5 (some (refusal SelfArc 1))
 
 -- the earlier of two tests that fail is told
-pub orders-right : both-fail ≡ first-told
-unfolding arcs-of written write-trouble strong-trouble reach-trouble skeleton-trouble plan-trouble records-trouble
-orders-right = refl
+pub orders_right : both_fail ≡ first_told
+unfolding arcs_of written write_trouble strong_trouble reach_trouble skeleton_trouble plan_trouble records_trouble
+orders_right = refl
 
 -- the trouble that a reading found
-abbrev trouble-found : Reading Given → Option Trouble
-trouble-found r = elim r [ bad t ↦ some t | got g end ↦ none ]
+abbrev trouble_found : Reading Given → Option Trouble
+trouble_found r = elim r [ bad t ↦ some t | got g end ↦ none ]
 
 -- files with two troubles, and what reading finds
-abbrev pub files-fail : List (Option Trouble)
-unfolding file-at
-files-fail =
+abbrev pub files_fail : List (Option Trouble)
+unfolding file_at
+files_fail =
     -- no zone, and the bytes end before the arc count
-    trouble-found (file-at (0x00 ∷ []) 0 0)
+    trouble_found (file_at (0x00 ∷ []) 0 0)
     ∷
     -- a zone count in a form that is too long, and above the bound
-    trouble-found (file-at (0x81 ∷ 0x88 ∷ 0x00 ∷ []) 0 0)
+    trouble_found (file_at (0x81 ∷ 0x88 ∷ 0x00 ∷ []) 0 0)
     ∷
     -- three groups that say that another follows, and the end of the bytes
-    trouble-found (file-at (0x80 ∷ 0x80 ∷ 0x80 ∷ []) 0 0)
+    trouble_found (file_at (0x80 ∷ 0x80 ∷ 0x80 ∷ []) 0 0)
     ∷
     -- an arc count in a form that is too long, and the bytes end before the arc
-    trouble-found (file-at (0x02 ∷ 0x81 ∷ 0x00 ∷ []) 1 1)
+    trouble_found (file_at (0x02 ∷ 0x81 ∷ 0x00 ∷ []) 1 1)
     ∷
     -- 4,097 arcs, and no room for them
-    trouble-found (file-at (0x02 ∷ 0x81 ∷ 0x20 ∷ []) 0 0)
+    trouble_found (file_at (0x02 ∷ 0x81 ∷ 0x20 ∷ []) 0 0)
     ∷
     -- no room for the one head, and a tail that is no zone
-    trouble-found (file-at (0x02 ∷ 0x01 ∷ 0x05 ∷ 0x00 ∷ []) 1 0)
+    trouble_found (file_at (0x02 ∷ 0x01 ∷ 0x05 ∷ 0x00 ∷ []) 1 0)
     ∷
     -- a tail that is no zone, and the bytes end before the head
-    trouble-found (file-at (0x02 ∷ 0x01 ∷ 0x02 ∷ []) 1 1)
+    trouble_found (file_at (0x02 ∷ 0x01 ∷ 0x02 ∷ []) 1 1)
     ∷
     -- a tail that is no zone, and a head that is none
-    trouble-found (file-at (0x02 ∷ 0x01 ∷ 0x02 ∷ 0x03 ∷ []) 1 1)
+    trouble_found (file_at (0x02 ∷ 0x01 ∷ 0x02 ∷ 0x03 ∷ []) 1 1)
     ∷
     -- a tail that is no zone, and a head in a form that is too long
-    trouble-found (file-at (0x02 ∷ 0x01 ∷ 0x02 ∷ 0x80 ∷ 0x00 ∷ []) 1 1)
+    trouble_found (file_at (0x02 ∷ 0x01 ∷ 0x02 ∷ 0x80 ∷ 0x00 ∷ []) 1 1)
     ∷
     -- an arc from 2 to itself, where 2 is no zone
-    trouble-found (file-at (0x02 ∷ 0x01 ∷ 0x02 ∷ 0x02 ∷ []) 1 1)
+    trouble_found (file_at (0x02 ∷ 0x01 ∷ 0x02 ∷ 0x02 ∷ []) 1 1)
     ∷
     -- a head that is no zone, and a byte behind it
-    trouble-found (file-at (0x02 ∷ 0x01 ∷ 0x00 ∷ 0x02 ∷ 0x00 ∷ []) 1 1)
+    trouble_found (file_at (0x02 ∷ 0x01 ∷ 0x00 ∷ 0x02 ∷ 0x00 ∷ []) 1 1)
     ∷
     -- an arc from a zone to itself, and a byte behind it
-    trouble-found (file-at (0x02 ∷ 0x01 ∷ 0x01 ∷ 0x01 ∷ 0x00 ∷ []) 1 1)
+    trouble_found (file_at (0x02 ∷ 0x01 ∷ 0x01 ∷ 0x01 ∷ 0x00 ∷ []) 1 1)
     ∷
     -- the bytes end inside the last head, whose value would be that of its tail
-    trouble-found (file-at (0x02 ∷ 0x01 ∷ 0x01 ∷ 0x81 ∷ []) 1 1)
+    trouble_found (file_at (0x02 ∷ 0x01 ∷ 0x01 ∷ 0x81 ∷ []) 1 1)
     ∷ []
 
 -- what the documents say of each
-abbrev pub files-told : List (Option Trouble)
-files-told =
+abbrev pub files_told : List (Option Trouble)
+files_told =
     some (refusal Zones 0)
     ∷ some (refusal Loose 2)
     ∷ some (refusal Long 2)
@@ -202,6 +202,6 @@ files-told =
     ∷ []
 
 -- the first trouble from left to right is told
-pub files-right : files-fail ≡ files-told
-unfolding file-at
-files-right = refl
+pub files_right : files_fail ≡ files_told
+unfolding file_at
+files_right = refl

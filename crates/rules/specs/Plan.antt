@@ -4,9 +4,9 @@
 --   rings, chains, backs   points 3, 4 and 5
 --   links o xs        the links that an ordering gives, with xs the components alone
 --   upright N         the network on which the rule runs: N, or N turned round where it has more sources than sinks
---   with-links N ls   the network with the arcs of the links ls added
---   plan N            the plan;   plan-pairs N   p;   plan-need N   the number of links
---   link-starts, link-ends, link-whys, record_of, plan-values   links and counts as a call hands them out
+--   with_links N ls   the network with the arcs of the links ls added
+--   plan N            the plan;   plan_pairs N   p;   plan_need N   the number of links
+--   link_starts, link_ends, link_whys, record_of, plan_values   links and counts as a call hands them out
 use Rattle.std.specs.Prelude.{ℕ, ◌+◌, max, List, [], ◌∷◌, ◌++◌, map, Bool, true, false, leb, length, drop}
 use Rattle.std.proofs.Math.Option.{Option, none, some}
 use Rattle.rules.specs.declared.Why.{Why as RecordWhy}
@@ -23,8 +23,8 @@ pub record Couple : Type 0 where
 -- an ordering: the pairs in the order made, then the sources and the sinks that stayed unpaired, ascending
 pub record Ordering : Type 0 where
   pub pairs : List Couple
-  pub lone-sources : List ℕ
-  pub lone-sinks : List ℕ
+  pub lone_sources : List ℕ
+  pub lone_sinks : List ℕ
 
 -- a sink that was picked, and those that are left
 pub record Picked : Type 0 where
@@ -41,21 +41,21 @@ pick p (w ∷ ws) =
     ]
 
 -- the ordering with v before its lone sources
-abbrev pub with-lone : ℕ → Ordering → Ordering
-with-lone v o = record { pairs = o.pairs; lone-sources = v ∷ o.lone-sources; lone-sinks = o.lone-sinks }
+abbrev pub with_lone : ℕ → Ordering → Ordering
+with_lone v o = record { pairs = o.pairs; lone_sources = v ∷ o.lone_sources; lone_sinks = o.lone_sinks }
 
 -- the ordering with the pair v, w before its pairs
 abbrev pub with_pair : ℕ → ℕ → Ordering → Ordering
 with_pair v w o =
-    record { pairs = record { v = v; w = w } ∷ o.pairs; lone-sources = o.lone-sources; lone-sinks = o.lone-sinks }
+    record { pairs = record { v = v; w = w } ∷ o.pairs; lone_sources = o.lone_sources; lone_sinks = o.lone_sinks }
 
 -- points 1 and 2: each source in turn takes the lowest sink that it reaches and that is still unpaired
 unfoldable pub pairing : (ℕ → ℕ → Bool) → List ℕ → List ℕ → Ordering
 unfolding pick
-pairing r [] ws = record { pairs = []; lone-sources = []; lone-sinks = ws }
+pairing r [] ws = record { pairs = []; lone_sources = []; lone_sinks = ws }
 pairing r (v ∷ vs) ws =
     elim (pick (r v) ws) [
-      | none ↦ with-lone v (pairing r vs ws)
+      | none ↦ with_lone v (pairing r vs ws)
       | some t ↦ with_pair v t.sink (pairing r vs t.rest)
     ]
 
@@ -64,10 +64,10 @@ pub data Why : Type 0 where
   ring chain back : Why
 
 -- its number in a list of numbers
-abbrev pub why-number : Why → ℕ
-why-number ring = 0
-why-number chain = 1
-why-number back = 2
+abbrev pub why_number : Why → ℕ
+why_number ring = 0
+why_number chain = 1
+why_number back = 2
 
 -- a link: from a zone, to a zone, and why
 pub record Link : Type 0 where
@@ -76,32 +76,32 @@ pub record Link : Type 0 where
   pub why : Why
 
 -- the arc that a link is
-abbrev pub link-arc : Link → Arc
-link-arc l = l.start ⟶ l.end
+abbrev pub link_arc : Link → Arc
+link_arc l = l.start ⟶ l.end
 
 -- the starts of links, the ends, and the numbers of the whys
-abbrev pub link-starts : List Link → List ℕ
-link-starts ls = map (λ (l : Link). l.start) ls
+abbrev pub link_starts : List Link → List ℕ
+link_starts ls = map (λ (l : Link). l.start) ls
 
-abbrev pub link-ends : List Link → List ℕ
-link-ends ls = map (λ (l : Link). l.end) ls
+abbrev pub link_ends : List Link → List ℕ
+link_ends ls = map (λ (l : Link). l.end) ls
 
-abbrev pub link-whys : List Link → List ℕ
-link-whys ls = map (λ (l : Link). why-number l.why) ls
+abbrev pub link_whys : List Link → List ℕ
+link_whys ls = map (λ (l : Link). why_number l.why) ls
 
 -- the why of a link, as a record has it
-abbrev pub why-of : Why → RecordWhy
-why-of ring = Ring
-why-of chain = Chain
-why-of back = Back
+abbrev pub why_of : Why → RecordWhy
+why_of ring = Ring
+why_of chain = Chain
+why_of back = Back
 
 -- the record of a link
 abbrev pub record_of : Link → RecordLink
-record_of l = record { from = l.start; to = l.end; why = why-of l.why }
+record_of l = record { from = l.start; to = l.end; why = why_of l.why }
 
 -- the network with the links added
-abbrev pub with-links : Network → List Link → Network
-with-links N ls = added N (map link-arc ls)
+abbrev pub with_links : Network → List Link → Network
+with_links N ls = added N (map link_arc ls)
 
 -- point 3: from the sink of each pair to the source of the next
 unfoldable pub rings : List Couple → List Link
@@ -122,10 +122,10 @@ backs (w ∷ ws) [] = []
 backs (w ∷ ws) (v ∷ vs) = record { start = w; end = v; why = back } ∷ backs ws vs
 
 -- w(p): the last pair's sink, where there is a pair
-unfoldable pub last-sink : List Couple → List ℕ
-last-sink [] = []
-last-sink (a ∷ []) = a.w ∷ []
-last-sink (a ∷ b ∷ cs) = last-sink (b ∷ cs)
+unfoldable pub last_sink : List Couple → List ℕ
+last_sink [] = []
+last_sink (a ∷ []) = a.w ∷ []
+last_sink (a ∷ b ∷ cs) = last_sink (b ∷ cs)
 
 -- the first of a list, where there is one
 unfoldable pub first_of : List ℕ → List ℕ
@@ -134,35 +134,35 @@ first_of (a ∷ bs) = a ∷ []
 
 -- the chain's stations between w(p) and v(1): the surplus sinks w(s+1) .. w(t), and then x(1) .. x(q)
 unfoldable pub middle : Ordering → List ℕ → List ℕ
-middle o xs = drop (length o.lone-sources) o.lone-sinks ++ xs
+middle o xs = drop (length o.lone_sources) o.lone_sinks ++ xs
 
 -- the chain's stations: w(p), the middle, and v(1), or x(1) where there is no pair
 unfoldable pub stations : Ordering → List ℕ → List ℕ
-unfolding last-sink first_of middle
-stations o xs = last-sink o.pairs ++ middle o xs ++ first_of (map (λ (a : Couple). a.v) o.pairs ++ xs)
+unfolding last_sink first_of middle
+stations o xs = last_sink o.pairs ++ middle o xs ++ first_of (map (λ (a : Couple). a.v) o.pairs ++ xs)
 
 -- the links in their order: ring, chain, back
 unfoldable pub links : Ordering → List ℕ → List Link
 unfolding rings chains backs stations
-links o xs = rings o.pairs ++ (chains (stations o xs) ++ backs o.lone-sinks o.lone-sources)
+links o xs = rings o.pairs ++ (chains (stations o xs) ++ backs o.lone_sinks o.lone_sources)
 
 -- the network with every arc turned round
 unfoldable pub turned : Network → Network
 turned N = record { zones = N.zones; arcs = map (λ (e : Arc). e.head ⟶ e.tail) N.arcs }
 
 -- the link turned round
-unfoldable pub turned-link : Link → Link
-turned-link l = record { start = l.end; end = l.start; why = l.why }
+unfoldable pub turned_link : Link → Link
+turned_link l = record { start = l.end; end = l.start; why = l.why }
 
 -- whether the rule runs on the network as given: s ≤ t
-unfoldable pub is-upright : Network → Bool
+unfoldable pub is_upright : Network → Bool
 unfolding sources sinks
-is-upright N = leb (length (sources N)) (length (sinks N))
+is_upright N = leb (length (sources N)) (length (sinks N))
 
 -- the network on which the rule runs
 unfoldable pub upright : Network → Network
-unfolding is-upright turned
-upright N = elim (is-upright N) [ true ↦ N | false ↦ turned N ]
+unfolding is_upright turned
+upright N = elim (is_upright N) [ true ↦ N | false ↦ turned N ]
 
 -- points 1 and 2 for a network
 unfoldable pub ordering : Network → Ordering
@@ -170,36 +170,36 @@ unfolding pairing reaches sources sinks
 ordering N = pairing (reaches N) (sources N) (sinks N)
 
 -- the rule for s ≤ t
-unfoldable pub upright-plan : Network → List Link
+unfoldable pub upright_plan : Network → List Link
 unfolding ordering links alone
-upright-plan N = links (ordering N) (alone N)
+upright_plan N = links (ordering N) (alone N)
 
 -- a strong network gets an empty plan; where s > t the rule runs on the turned network and its links are turned round
 unfoldable pub plan : Network → List Link
-unfolding strong is-upright upright-plan turned turned-link
+unfolding strong is_upright upright_plan turned turned_link
 plan N =
     elim (strong N) [
       | true ↦ []
-      | false ↦ elim (is-upright N) [
-        | true ↦ upright-plan N
-        | false ↦ map turned-link (upright-plan (turned N))
+      | false ↦ elim (is_upright N) [
+        | true ↦ upright_plan N
+        | false ↦ map turned_link (upright_plan (turned N))
       ]
     ]
 
 -- p: how many pairs are made
-unfoldable pub plan-pairs : Network → ℕ
+unfoldable pub plan_pairs : Network → ℕ
 unfolding ordering upright
-plan-pairs N = length (ordering (upright N)).pairs
+plan_pairs N = length (ordering (upright N)).pairs
 
 -- max(s, t) + q, or 0 for a strong network
-unfoldable pub plan-need : Network → ℕ
+unfoldable pub plan_need : Network → ℕ
 unfolding strong sources sinks alone
-plan-need N =
+plan_need N =
     elim (strong N) [
       | true ↦ 0
       | false ↦ max (length (sources N)) (length (sinks N)) + length (alone N)
     ]
 
 -- what an answer carries: s, t, q, p, and the number of links
-abbrev pub plan-values : Network → List ℕ
-plan-values N = length (sources N) ∷ length (sinks N) ∷ length (alone N) ∷ plan-pairs N ∷ plan-need N ∷ []
+abbrev pub plan_values : Network → List ℕ
+plan_values N = length (sources N) ∷ length (sinks N) ∷ length (alone N) ∷ plan_pairs N ∷ plan_need N ∷ []

@@ -2,7 +2,7 @@
 --   follows N a b   point 1: the arc from a to b is in the ring of a component
 --   crosses N a b   point 2: the arc from a to b stands between two components
 --   skeleton N      point 3: the arcs of both kinds, each once, ascending by tail, then by head
---   skeleton-of N   the network that they make
+--   skeleton_of N   the network that they make
 -- A skeleton is the pairs of zones, in ascending order, that one of the two tests takes, so it is sorted and has no
 -- arc twice by the way it is made.
 use Rattle.std.specs.Prelude.{ℕ, Bool, ◌&&◌, eqb}
@@ -54,15 +54,15 @@ module _ (N : Network) where
       && ((not (together N a b) && joined a b) && not (any (between a b) N.zones))
 
   -- whether the rule takes an arc
-  unfoldable pub in-skeleton : Arc → Bool
+  unfoldable pub in_skeleton : Arc → Bool
   unfolding follows crosses
-  in-skeleton e = elim (follows e.tail e.head) [ true ↦ true | false ↦ crosses e.tail e.head ]
+  in_skeleton e = elim (follows e.tail e.head) [ true ↦ true | false ↦ crosses e.tail e.head ]
 
   -- point 3
   unfoldable pub skeleton : List Arc
-  unfolding in-skeleton pairs_of
-  skeleton = keep in-skeleton (pairs_of N.zones)
+  unfolding in_skeleton pairs_of
+  skeleton = keep in_skeleton (pairs_of N.zones)
 
   -- the zone count stays
-  abbrev pub skeleton-of : Network
-  skeleton-of = record { zones = N.zones; arcs = skeleton }
+  abbrev pub skeleton_of : Network
+  skeleton_of = record { zones = N.zones; arcs = skeleton }

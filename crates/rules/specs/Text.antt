@@ -8,13 +8,13 @@ use Prim.Native.Char.{code}
 use Prim.Native.String
 use Prim.Native.String.{String}
 use Rattle.rules.specs.declared.Trouble.{Trouble}
-use Rattle.rules.specs.Answers.{trouble-number}
-use Rattle.rules.specs.Network.{Network, network-of}
+use Rattle.rules.specs.Answers.{trouble_number}
+use Rattle.rules.specs.Network.{Network, network_of}
 use Rattle.rules.specs.Components.{sources, sinks, alone}
-use Rattle.rules.specs.Plan.{Why, Link, plan, plan-pairs, plan-need}
+use Rattle.rules.specs.Plan.{Why, Link, plan, plan_pairs, plan_need}
 use Rattle.rules.specs.Plan.Why.{ring, chain, back}
 use Rattle.rules.specs.Number.{got, bad}
-use Rattle.rules.specs.File.{Given, file-at}
+use Rattle.rules.specs.File.{Given, file_at}
 
 -- the bytes of a quoted text
 unfoldable pub word : String → List ℕ
@@ -32,37 +32,37 @@ unfolding digits
 decimal n = digits 20 n []
 
 -- why a link is there, as a word
-unfoldable pub why-word : Why → List ℕ
+unfoldable pub why_word : Why → List ℕ
 unfolding word
-why-word ring = word " ring\n"
-why-word chain = word " chain\n"
-why-word back = word " back\n"
+why_word ring = word " ring\n"
+why_word chain = word " chain\n"
+why_word back = word " back\n"
 
 -- a line for each link: from, to, why
-unfoldable pub link-lines : List Link → List ℕ
-unfolding word decimal why-word
-link-lines [] = []
-link-lines (l ∷ ls) = decimal l.start ++ (word " " ++ (decimal l.end ++ (why-word l.why ++ link-lines ls)))
+unfoldable pub link_lines : List Link → List ℕ
+unfolding word decimal why_word
+link_lines [] = []
+link_lines (l ∷ ls) = decimal l.start ++ (word " " ++ (decimal l.end ++ (why_word l.why ++ link_lines ls)))
 
 -- the lines of a plan: zone and arc counts; s, t, q, p; the number of links; the links; done
-unfoldable pub plan-lines : Given → List ℕ
-unfolding word decimal link-lines sources sinks alone plan plan-pairs plan-need
-plan-lines g =
-    let N : Network = network-of g.zones g.arcs in
+unfoldable pub plan_lines : Given → List ℕ
+unfolding word decimal link_lines sources sinks alone plan plan_pairs plan_need
+plan_lines g =
+    let N : Network = network_of g.zones g.arcs in
     word "zones " ++ (decimal g.zones ++ (word " arcs " ++ (decimal (length g.arcs)
     ++ (word "\nsources " ++ (decimal (length (sources N)) ++ (word " sinks " ++ (decimal (length (sinks N))
-    ++ (word " alone " ++ (decimal (length (alone N)) ++ (word " pairs " ++ (decimal (plan-pairs N)
-    ++ (word "\nneed " ++ (decimal (plan-need N) ++ (word "\n"
-    ++ (link-lines (plan N) ++ word "done\n")))))))))))))))
+    ++ (word " alone " ++ (decimal (length (alone N)) ++ (word " pairs " ++ (decimal (plan_pairs N)
+    ++ (word "\nneed " ++ (decimal (plan_need N) ++ (word "\n"
+    ++ (link_lines (plan N) ++ word "done\n")))))))))))))))
 
 -- the one line of a refusal
-unfoldable pub refusal-line : Trouble → List ℕ
+unfoldable pub refusal_line : Trouble → List ℕ
 unfolding word decimal
-refusal-line t =
-    word "refused " ++ (decimal (trouble-number t.kind) ++ (word " at " ++ (decimal t.place ++ word "\n")))
+refusal_line t =
+    word "refused " ++ (decimal (trouble_number t.kind) ++ (word " at " ++ (decimal t.place ++ word "\n")))
 
 -- all that is printed for the bytes s: linkplan lends the reading lists of 4,096 elements, so that there is always
 -- room
 unfoldable pub printed : List ℕ → List ℕ
-unfolding file-at plan-lines refusal-line
-printed s = elim (file-at s 4096 4096) [ bad t ↦ refusal-line t | got g end ↦ plan-lines g ]
+unfolding file_at plan_lines refusal_line
+printed s = elim (file_at s 4096 4096) [ bad t ↦ refusal_line t | got g end ↦ plan_lines g ]

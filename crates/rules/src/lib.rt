@@ -3,7 +3,7 @@
 // No algorithm is here. specs/ has document 01's rules as definitions that compute, and specs/Answers.antt sets out
 // the document's number, place and values for every case of every answer.
 ghost use Rattle.std.specs.Prelude.{◌≡◌};
-ghost use Rattle.rules.specs.Answers.{trouble-number};
+ghost use Rattle.rules.specs.Answers.{trouble_number};
 
 // The kinds of refusal of document 01's table, 1 to 10, and of document 02: 11 of No. 1, 12 to 14 of No. 2. 0 is DONE,
 // and is no refusal.
@@ -27,7 +27,7 @@ pub enum TroubleKind {
 
 // The number of a kind of refusal.
 pub fn trouble_number(kind: TroubleKind) -> usize
-    ensures { result ≡ trouble-number kind }
+    ensures { result ≡ trouble_number kind }
 {
     match kind {
         TroubleKind::Short => 1,

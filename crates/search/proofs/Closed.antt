@@ -1,7 +1,7 @@
 -- Closed marks: where a zone has a mark, all of its row has.
 --   closed_run       a run that begins at a mark never leaves closed marks
---   clear-closed     clear marks are closed
---   searched-clear   after a search from clear marks a run leads to whatever has a mark
+--   clear_closed     clear marks are closed
+--   searched_clear   after a search from clear marks a run leads to whatever has a mark
 -- Assumes nothing.
 use mathlib.Core.Path.{sym}
 use mathlib.Core.Logic.{⊎_elim}
@@ -9,7 +9,7 @@ use mathlib.Core.List.{List}
 use Prim.Native.Nat.{ℕ, ◌<◌}
 use Rattle.arranged.specs.Rows.{Rows, Sound, Entry, Run, here, further, rows_of}
 use Rattle.arranged.specs.Marks.{Marked}
-use Rattle.workmap.specs.Map.{row-places, search-places}
+use Rattle.workmap.specs.Map.{row_places, search_places}
 use Rattle.search.specs.Marking.{Clear, Closed, Searched}
 
 -- a run that begins at a mark never leaves closed marks
@@ -25,11 +25,11 @@ closed_run S w marks C h m (further {b = b} p e) =
 
 module _ (w : List ℕ) (zones starts rows marks : ℕ) (clear : Clear w marks zones) where
   -- clear marks are closed
-  pub clear-closed : Closed (rows_of w (row-places zones starts rows)) w marks
-  clear-closed v h m = absurd (m (clear v h))
+  pub clear_closed : Closed (rows_of w (row_places zones starts rows)) w marks
+  clear_closed v h m = absurd (m (clear v h))
 
   -- after a search from clear marks a run leads to whatever has a mark
-  pub searched-clear : (w' : List ℕ) (from stack : ℕ) → Searched w w' (row-places zones starts rows)
-      (search-places marks stack) from →
-      (v : ℕ) → v < zones → Marked w' marks v → Run (Entry (rows_of w (row-places zones starts rows))) from v
-  searched-clear w' from stack S v h m = ⊎_elim (λ o. absurd (o (clear v h))) (λ r. r) (S.sound v h m)
+  pub searched_clear : (w' : List ℕ) (from stack : ℕ) → Searched w w' (row_places zones starts rows)
+      (search_places marks stack) from →
+      (v : ℕ) → v < zones → Marked w' marks v → Run (Entry (rows_of w (row_places zones starts rows))) from v
+  searched_clear w' from stack S v h m = ⊎_elim (λ o. absurd (o (clear v h))) (λ r. r) (S.sound v h m)

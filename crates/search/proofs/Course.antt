@@ -1,9 +1,9 @@
 -- The course of a search: its begin, one row of the queue, and its end.
 --   laid_same              equal rows are laid alike in memories of one length
 --   begun                  the start has its mark and stands on the queue
---   head-.., spreading-next   the row of the zone at `head` is visited
---   spread-ended, spread_same    the queue is gone through: the marks are closed; or the start had a mark
---   spreadable-one, searched     the search with the mark 1 and an empty queue
+--   head-.., spreading_next   the row of the zone at `head` is visited
+--   spread_ended, spread_same    the queue is gone through: the marks are closed; or the start had a mark
+--   spreadable_one, searched     the search with the mark 1 and an empty queue
 -- A marked zone had its mark before, or stands on the queue. Where all of the queue is gone through the marks are
 -- closed under entries, so a run that begins at a mark never leaves them. Assumes nothing.
 use mathlib.Core.Path.{◌≡◌, refl, sym, ap, ◌∙◌}
@@ -14,22 +14,22 @@ use native.Mathlib.Omega.{arith}
 use lib.ListN.{length, get_or, drop, set}
 use Rattle.workmap.specs.declared.RowsAt.{RowsAt}
 use Rattle.workmap.specs.declared.SearchAt.{SearchAt}
-use Rattle.workmap.specs.Map.{row-places, search-places}
+use Rattle.workmap.specs.Map.{row_places, search_places}
 use Rattle.memory.specs.Regions.{cell}
 use Rattle.arranged.specs.Rows.{Entry, Run, further, here}
 use Rattle.arranged.specs.Marks.{Marked}
 use Rattle.memory.proofs.Numbers.{same?}
-use Rattle.arranged.proofs.Zeros.{zeros-few}
-use Rattle.search.specs.Marking.{rows_in, Laid, Row-marked, Closed, Searchable, Searched, Spreadable, Spreading}
+use Rattle.arranged.proofs.Zeros.{zeros_few}
+use Rattle.search.specs.Marking.{rows_in, Laid, RowMarked, Closed, Searchable, Searched, Spreadable, Spreading}
 use Rattle.search.specs.Marking.{Spread, Visitable, Visited}
-use Rattle.search.proofs.Keeping.{kept-rows, head_at, start-at, stop-at}
+use Rattle.search.proofs.Keeping.{kept_rows, head_at, start_at, stop_at}
 use Rattle.search.proofs.Closed.{closed_run}
-use Rattle.search.proofs.Join.{Join, spreading-none, spreading-join}
+use Rattle.search.proofs.Join.{Join, spreading_none, spreading_join}
 
 -- equal rows are laid alike in memories of one length
 pub laid_same : (w w' : List ℕ) (zones starts rows marks queue : ℕ) → length w' ≡ length w →
-    drop starts w' ≡ drop starts w → Laid w (row-places zones starts rows) (search-places marks queue) →
-    Laid w' (row-places zones starts rows) (search-places marks queue)
+    drop starts w' ≡ drop starts w → Laid w (row_places zones starts rows) (search_places marks queue) →
+    Laid w' (row_places zones starts rows) (search_places marks queue)
 laid_same w w' zones starts rows marks queue long same L =
     record {
       small = L.small;
@@ -42,9 +42,9 @@ laid_same w w' zones starts rows marks queue long same L =
     }
 
 -- marks and queue lie in the memory
-pub laid-fits : {w : List ℕ} {R : RowsAt} {S : SearchAt} → Laid w R S →
+pub laid_fits : {w : List ℕ} {R : RowsAt} {S : SearchAt} → Laid w R S →
     (S.marks + R.zones ≤ length w) × (S.queue + R.zones ≤ length w)
-laid-fits L = (
+laid_fits L = (
   omega (arith, L.apart, L.before, L.order, L.fits),
   omega (arith, L.before, L.order, L.fits),
 )
@@ -54,12 +54,12 @@ module _ {w w' : List ℕ} {R : RowsAt} {S : SearchAt} {from x top : ℕ} (A : S
     (free : cell w S.marks from ≡ 0)
     (made : w' ≡ set (set w (S.marks + from) x) (S.queue + top) from) where
   -- the two stores
-  pub start-join : Join w w' S R.zones x top from
-  start-join =
+  pub start_join : Join w w' S R.zones x top from
+  start_join =
       record {
         some = A.some;
         apart = A.able.laid.apart;
-        fits = (laid-fits A.able.laid).1;
+        fits = (laid_fits A.able.laid).1;
         zone = A.able.zone;
         free = free;
         room = A.room;
@@ -68,66 +68,66 @@ module _ {w w' : List ℕ} {R : RowsAt} {S : SearchAt} {from x top : ℕ} (A : S
 
   -- the search has met it
   pub begun : Spreading w w' R S from x top top (top + 1)
-  begun = spreading-join (spreading-none A) start-join (inl refl) here
+  begun = spreading_join (spreading_none A) start_join (inl refl) here
 
 -- a search that has not gone through its queue, whose zone z at `head` has its row from a up to b
 module _ {v w : List ℕ} {R : RowsAt} {S : SearchAt} {from x top head tail : ℕ}
     (G : Spreading v w R S from x top head tail) (more : head < tail) where
   -- the rows are as they were
   pub rows_same : drop R.starts w ≡ drop R.starts v
-  rows_same = kept-rows v w S.marks S.queue R.zones G.kept R.starts G.able.able.laid.before
+  rows_same = kept_rows v w S.marks S.queue R.zones G.kept R.starts G.able.able.laid.before
 
   -- so the memory is laid out still
-  pub laid-now : Laid w R S
-  laid-now =
+  pub laid_now : Laid w R S
+  laid_now =
       laid_same v w R.zones R.starts R.rows S.marks S.queue G.kept.long rows_same
       G.able.able.laid
 
   -- the queue has at most all zones
-  pub tail-few : tail ≤ R.zones
-  tail-few = omega (arith, G.room, G.able.room)
+  pub tail_few : tail ≤ R.zones
+  tail_few = omega (arith, G.room, G.able.room)
 
   module _ {z a b : ℕ} (ez : z ≡ cell w S.queue head) (ea : a ≡ R.rows + get_or w (R.starts + z) 0)
       (eb : b ≡ R.rows + get_or w (R.starts + z + 1) 0) where
     -- it is a zone
-    pub head-zone : z < R.zones
-    head-zone = rw ez (G.met head G.low more).zone
+    pub head_zone : z < R.zones
+    head_zone = rw ez (G.met head G.low more).zone
 
     -- its row starts at a
     start_is : (rows_in w R).start z ≡ a
-    start_is = start-at w R.zones R.starts R.rows z ∙ sym ea
+    start_is = start_at w R.zones R.starts R.rows z ∙ sym ea
 
     -- its row stops at b
     stop_is : (rows_in w R).stop z ≡ b
-    stop_is = stop-at w R.zones R.starts R.rows z ∙ sym eb
+    stop_is = stop_at w R.zones R.starts R.rows z ∙ sym eb
 
     -- the head at a place of its row
-    head-is : (i : ℕ) → a ≤ i → (rows_in v R).head i ≡ get_or w i 0
-    head-is i h =
-        rw rows_same at (head_at w R.zones R.starts R.rows i (omega (arith, laid-now.order)))
+    head_is : (i : ℕ) → a ≤ i → (rows_in v R).head i ≡ get_or w i 0
+    head_is i h =
+        rw rows_same at (head_at w R.zones R.starts R.rows i (omega (arith, laid_now.order)))
 
     -- its row can be visited
-    pub head-visitable : Visitable w R S x a b tail
-    head-visitable =
-        let L = laid-now in
+    pub head_visitable : Visitable w R S x a b tail
+    head_visitable =
+        let L = laid_now in
         record {
           some = G.able.some;
           apart = L.apart;
           before = omega (arith, L.before, L.order);
-          order = omega (arith, start_is, stop_is, L.sound.up z head-zone);
-          fits = omega (arith, stop_is, L.ends z head-zone);
+          order = omega (arith, start_is, stop_is, L.sound.up z head_zone);
+          fits = omega (arith, stop_is, L.ends z head_zone);
           heads = λ i l h.
               omega (
                 arith,
-                L.sound.heads z i head-zone (omega (arith, start_is)) (omega (arith, stop_is)),
+                L.sound.heads z i head_zone (omega (arith, start_is)) (omega (arith, stop_is)),
                 head_at w R.zones R.starts R.rows i (omega (arith, L.order)),
               );
           room = omega (arith, G.room, G.able.room);
         }
 
     -- its row, as the search began
-    row-was : (i : ℕ) → (rows_in v R).start z ≤ i → i < (rows_in v R).stop z → (a ≤ i) × (i < b)
-    row-was i l h =
+    row_was : (i : ℕ) → (rows_in v R).start z ≤ i → i < (rows_in v R).stop z → (a ≤ i) × (i < b)
+    row_was i l h =
         let s : (rows_in v R).start z ≡ a = rw rows_same at start_is in
         let e : (rows_in v R).stop z ≡ b = rw rows_same at stop_is in
         (omega arith, omega arith)
@@ -138,19 +138,19 @@ module _ {v w : List ℕ} {R : RowsAt} {S : SearchAt} {from x top head tail : �
         let s : (rows_in v R).start z ≡ a = rw rows_same at start_is in
         let e : (rows_in v R).stop z ≡ b = rw rows_same at stop_is in
         further (rw (sym ez) at (G.met head G.low more).run)
-        (record { tail = head-zone; at = i; low = omega arith; high = omega arith; is = head-is i l })
+        (record { tail = head_zone; at = i; low = omega arith; high = omega arith; is = head_is i l })
 
     -- its row is visited
     module _ {w' : List ℕ} {r : ℕ} (D : Visited w w' R S x a b tail r) where
       -- all of its row has marks
-      row-full : Row-marked (rows_in v R) w' S.marks (cell w' S.queue head)
-      row-full =
+      row_full : RowMarked (rows_in v R) w' S.marks (cell w' S.queue head)
+      row_full =
           rw (D.front head more ∙ sym ez)
-          (λ i l h. rw (head-is i (row-was i l h).0) (D.all i (row-was i l h).0 (row-was i l h).1))
+          (λ i l h. rw (head_is i (row_was i l h).0) (D.all i (row_was i l h).0 (row_was i l h).1))
 
       -- the search goes on with the next zone of the queue
-      pub spreading-next : Spreading v w' R S from x top (head + 1) r
-      spreading-next =
+      pub spreading_next : Spreading v w' R S from x top (head + 1) r
+      spreading_next =
           let N = D.goes_on v from top head G more runs in
           record {
             able = N.able;
@@ -164,14 +164,14 @@ module _ {v w : List ℕ} {R : RowsAt} {S : SearchAt} {from x top head tail : �
             listed = N.listed;
             met = N.met;
             once = N.once;
-            done = λ j l m. elim (same? j head) [ inl e ↦ rw e row-full | inr e ↦ N.done j l (omega arith) ];
+            done = λ j l m. elim (same? j head) [ inl e ↦ rw e row_full | inr e ↦ N.done j l (omega arith) ];
           }
 
 -- the queue is gone through
 module _ {v w : List ℕ} {R : RowsAt} {S : SearchAt} {from x top r : ℕ} (G : Spreading v w R S from x top r r) where
   -- the marks are closed
-  closed-end : Closed (rows_in v R) w S.marks
-  closed-end u l m = elim (G.listed u l m) [
+  closed_end : Closed (rows_in v R) w S.marks
+  closed_end u l m = elim (G.listed u l m) [
     | inl o ↦ λ i a b e.
         let h = (rows_in v R).head i in
         let k = G.able.able.closed u l o i a b in
@@ -180,17 +180,17 @@ module _ {v w : List ℕ} {R : RowsAt} {S : SearchAt} {from x top r : ℕ} (G : 
   ]
 
   -- the search is done
-  pub spread-ended : top < r → Spread v w R S from x top r
-  spread-ended l =
+  pub spread_ended : top < r → Spread v w R S from x top r
+  spread_ended l =
       let M = G.met top (omega arith) l in
       let is : cell w S.marks from ≡ x = rw (G.first l) at M.mark in
       record {
         course = G;
         idle = λ m. absurd (m (rw (G.first l) at M.free));
         complete = λ u p.
-            closed_run G.able.able.laid.sound w S.marks closed-end G.able.able.zone
+            closed_run G.able.able.laid.sound w S.marks closed_end G.able.able.zone
             (λ e. omega (arith, G.able.some)) p;
-        closed = closed-end;
+        closed = closed_end;
       }
 
 -- the start has a mark, and nothing changes
@@ -198,7 +198,7 @@ pub spread_same : {w : List ℕ} {R : RowsAt} {S : SearchAt} {from x top : ℕ} 
     Marked w S.marks from → Spread w w R S from x top top
 spread_same {w} {S = S} A m =
     record {
-      course = spreading-none A;
+      course = spreading_none A;
       idle = λ _. (refl, refl);
       complete = λ u p.
           closed_run A.able.laid.sound w S.marks A.able.closed A.able.zone m p;
@@ -207,9 +207,9 @@ spread_same {w} {S = S} A m =
 
 module _ {w : List ℕ} {R : RowsAt} {S : SearchAt} {from : ℕ} (A : Searchable w R S from) where
   -- the search can mark with 1, on an empty queue
-  pub spreadable-one : Spreadable w R S from 1 0
-  spreadable-one =
-      record { able = A; some = omega arith; room = omega (arith, zeros-few w S.marks R.zones) }
+  pub spreadable_one : Spreadable w R S from 1 0
+  spreadable_one =
+      record { able = A; some = omega arith; room = omega (arith, zeros_few w S.marks R.zones) }
 
   -- what it leaves, said of the marks alone
   pub searched : {w' : List ℕ} {r : ℕ} → Spread w w' R S from 1 0 r → Searched w w' R S from
@@ -217,8 +217,8 @@ module _ {w : List ℕ} {R : RowsAt} {S : SearchAt} {from : ℕ} (A : Searchable
       let G = D.course in
       record {
         kept = G.kept;
-        rows-kept =
-            kept-rows w w' S.marks S.queue R.zones G.kept R.starts A.laid.before;
+        rows_kept =
+            kept_rows w w' S.marks S.queue R.zones G.kept R.starts A.laid.before;
         old = λ v l m e. m (sym (G.old v l m) ∙ e);
         sound = λ v l m. elim (G.listed v l m) [
           | inl o ↦ inl o

@@ -4,7 +4,7 @@
 --   rows_in w R              the rows that stand in w at the places R
 --   Laid                     marks and queue lie before the rows, and every row lies in the memory
 --   Clear w marks n          no zone has a mark
---   Row-marked, Closed       all of a zone's row has marks; that is so of every zone that has a mark
+--   RowMarked, Closed       all of a zone's row has marks; that is so of every zone that has a mark
 --   Searchable, Searched     what a search with the mark 1 and an empty queue asks, and what it leaves: the marks that
 --                            were there, and marks exactly where a run of entries leads
 --   Queued q f t v           v is q at a place from f up to t
@@ -48,12 +48,12 @@ abbrev pub Clear : List ℕ → ℕ → ℕ → Type 0
 Clear w marks n = (v : ℕ) → v < n → get_or w (marks + v) 0 ≡ 0
 
 -- every zone in the row of v has a mark in w
-abbrev pub Row-marked : Rows → List ℕ → ℕ → ℕ → Type 0
-Row-marked G w marks v = (i : ℕ) → G.start v ≤ i → i < G.stop v → Marked w marks (G.head i)
+abbrev pub RowMarked : Rows → List ℕ → ℕ → ℕ → Type 0
+RowMarked G w marks v = (i : ℕ) → G.start v ≤ i → i < G.stop v → Marked w marks (G.head i)
 
 -- the marks are closed: where a zone has one, all of its row has
 abbrev pub Closed : Rows → List ℕ → ℕ → Type 0
-Closed G w marks = (v : ℕ) → v < G.zones → Marked w marks v → Row-marked G w marks v
+Closed G w marks = (v : ℕ) → v < G.zones → Marked w marks v → RowMarked G w marks v
 
 -- what the search asks: the memory is laid out, the marks are closed, and the start is a zone
 pub record Searchable (w : List ℕ) (R : RowsAt) (S : SearchAt) (from : ℕ) : Type 0 where
@@ -65,7 +65,7 @@ pub record Searchable (w : List ℕ) (R : RowsAt) (S : SearchAt) (from : ℕ) : 
 -- again, and all but marks and queue is as it was
 pub record Searched (w w' : List ℕ) (R : RowsAt) (S : SearchAt) (from : ℕ) : Type 0 where
   pub kept : Kept w w' S.marks S.queue R.zones
-  pub rows-kept : drop R.starts w' ≡ drop R.starts w
+  pub rows_kept : drop R.starts w' ≡ drop R.starts w
   pub old : (v : ℕ) → v < R.zones → Marked w S.marks v → Marked w' S.marks v
   pub sound :
       (v : ℕ) → v < R.zones → Marked w' S.marks v → Marked w S.marks v ⊎ Run (Entry (rows_in w R)) from v
@@ -107,7 +107,7 @@ pub record Spreading (w w' : List ℕ) (R : RowsAt) (S : SearchAt) (from x top h
       (v : ℕ) → v < R.zones → Marked w' S.marks v → Marked w S.marks v ⊎ Queued (cell w' S.queue) top tail v
   pub met : (j : ℕ) → top ≤ j → j < tail → Met w w' R S from x (cell w' S.queue j)
   pub once : (i j : ℕ) → top ≤ i → i < j → j < tail → cell w' S.queue i ≡ cell w' S.queue j → ⊥
-  pub done : (j : ℕ) → top ≤ j → j < head → Row-marked (rows_in w R) w' S.marks (cell w' S.queue j)
+  pub done : (j : ℕ) → top ≤ j → j < head → RowMarked (rows_in w R) w' S.marks (cell w' S.queue j)
 
 -- what a search leaves, with the queue's end at r: it has gone through the queue, so the marks are closed again, and
 -- each zone that a run of entries leads to has one; where the start had a mark nothing changes

@@ -2,7 +2,7 @@
 // many of each the links are made of, once its pairs are made.
 ghost use Rattle.std.specs.Prelude.{◌≡◌, ◌≤◌};
 ghost use Rattle.workmap.specs.Map.{map_of};
-ghost use Rattle.sides.specs.Sides.{As-given, Turned-round, Rule-side, Tallied};
+ghost use Rattle.sides.specs.Sides.{AsGiven, TurnedRound, RuleSide, Tallied};
 
 use stations::Counts;
 use workmap::{LinksAt, ListsAt, Map, Side};
@@ -10,7 +10,7 @@ use workmap::{LinksAt, ListsAt, Map, Side};
 // The side as given: along the rows, from the sources to the sinks.
 fn as_given(m: Map) -> Side
     requires { m ≡ map_of m.zones m.arcs }
-    ensures { As-given m result }
+    ensures { AsGiven m result }
 {
     let rows = m.rows;
     let search = m.search;
@@ -29,7 +29,7 @@ fn as_given(m: Map) -> Side
 // The side turned round: along the turned rows, with sources and sinks exchanged, and the links' starts and ends.
 fn turned_round(m: Map) -> Side
     requires { m ≡ map_of m.zones m.arcs }
-    ensures { Turned-round m result }
+    ensures { TurnedRound m result }
 {
     let rows = m.turned;
     let search = m.search;
@@ -57,7 +57,7 @@ fn turned_round(m: Map) -> Side
 // The side on which the rule runs for s sources and t sinks: as given where s <= t, and turned round elsewhere.
 pub fn side_of(m: Map, s: usize, t: usize) -> Side
     requires { m ≡ map_of m.zones m.arcs }
-    ensures { Rule-side m s t result }
+    ensures { RuleSide m s t result }
 {
     if s <= t {
         return as_given(m);

@@ -1,7 +1,7 @@
 -- The core of `skeleton`: from the readied memory to the named one, and from the skeleton's arcs in no order to the
 -- skeleton.
 --   named_here      after naming the names stand
---   sort-asked      the arcs that are put can be sorted
+--   sort_asked      the arcs that are put can be sorted
 --   sketched        sorted they are the skeleton, and clearing leaves what came behind
 -- Assumes nothing.
 use mathlib.Core.Path.{◌≡◌, subst, ◌∙◌}
@@ -11,42 +11,42 @@ use native.Mathlib.Omega.{arith}
 use lib.ListN.{length, drop}
 use borrow.Author.Tests.{eq-eqb}
 use Rattle.rules.specs.Lists.{cleared}
-use Rattle.rules.specs.Network.{Arc, network-of}
+use Rattle.rules.specs.Network.{Arc, network_of}
 use Rattle.rules.specs.Components.{name, is_name, names}
 use Rattle.rules.specs.Skeleton.{skeleton}
-use Rattle.rules.specs.Calls.{arcs-of, handed, asked-work}
-use Rattle.theory.proofs.Files.Accepting.{fine-few}
-use Rattle.theory.proofs.Ground.Lists.{in-keep}
-use Rattle.theory.proofs.Ground.Ascending.{span-length}
-use Rattle.theory.proofs.Ground.Counting.{keep-length}
-use Rattle.theory.proofs.Reaching.Components.{names-zone}
+use Rattle.rules.specs.Calls.{arcs_of, handed, asked_work}
+use Rattle.theory.proofs.Files.Accepting.{fine_few}
+use Rattle.theory.proofs.Ground.Lists.{in_keep}
+use Rattle.theory.proofs.Ground.Ascending.{span_length}
+use Rattle.theory.proofs.Ground.Counting.{keep_length}
+use Rattle.theory.proofs.Reaching.Components.{names_zone}
 use Rattle.workmap.specs.Map.{map_of, rows_at}
-use Rattle.memory.specs.Putting.{Arcs-fit, Arcs-put}
-use Rattle.memory.proofs.Places.{drop-deeper}
-use Rattle.memory.proofs.Cleared.{cleared-back}
-use Rattle.memory.proofs.Puts.{put-over}
+use Rattle.memory.specs.Putting.{ArcsFit, ArcsPut}
+use Rattle.memory.proofs.Places.{drop_deeper}
+use Rattle.memory.proofs.Cleared.{cleared_back}
+use Rattle.memory.proofs.Puts.{put_over}
 use Rattle.arranged.specs.Ready.{Readyable, Readied}
 use Rattle.components.specs.Components.{Components}
 use Rattle.sorting.specs.Sorting.{Sortable, Sorted}
-use Rattle.sorting.proofs.Sorts.{put-sortable, put-sorted}
+use Rattle.sorting.proofs.Sorts.{put_sortable, put_sorted}
 use Rattle.drawing.specs.Drawing.{Named, Drawn}
 use Rattle.skeleton.specs.Promises.{Sketchable, Sketched}
 
 module _ (n : ℕ) (ts hs w w₁ : List ℕ) (R : Readyable (map_of n (length ts)) ts hs w)
     (A : Readied w w₁ (map_of n (length ts)) ts hs) where
   -- w₂ is the memory after naming
-  module _ (w₂ : List ℕ) (k : ℕ) (C : Components w₁ w₂ (map_of n (length ts)) (network-of n (arcs-of ts hs)) k) where
+  module _ (w₂ : List ℕ) (k : ℕ) (C : Components w₁ w₂ (map_of n (length ts)) (network_of n (arcs_of ts hs)) k) where
     -- there are no more names than zones
-    names-few : k ≤ n
+    names_few : k ≤ n
     unfolding names
-    names-few =
-        let N = network-of n (arcs-of ts hs) in
-        omega (arith, C.count, keep-length (is_name N) N.zones, span-length 0 n)
+    names_few =
+        let N = network_of n (arcs_of ts hs) in
+        omega (arith, C.count, keep_length (is_name N) N.zones, span_length 0 n)
 
     -- a zone that names itself is listed
     listed : (c : ℕ) → In c (handed n ts hs).zones → name (handed n ts hs) c ≡ c → In c (names (handed n ts hs))
     unfolding names is_name
-    listed c i e = in-keep (is_name (handed n ts hs)) i (eq-eqb (name (handed n ts hs) c) c e)
+    listed c i e = in_keep (is_name (handed n ts hs)) i (eq-eqb (name (handed n ts hs) c) c e)
 
     -- the names stand
     pub named_here : Named w₂ n ts hs k
@@ -55,11 +55,11 @@ module _ (n : ℕ) (ts hs w w₁ : List ℕ) (R : Readyable (map_of n (length ts
         record {
           fine = R.fine;
           room = omega (arith, R.room, A.standing.long, C.long);
-          few = names-few;
+          few = names_few;
           named = C.named;
           ordered =
               record {
-                own = λ j h. names-zone (network-of n (arcs-of ts hs)) (C.top j h);
+                own = λ j h. names_zone (network_of n (arcs_of ts hs)) (C.top j h);
                 all = λ c i e. C.listed c (listed c i e);
                 after = C.sorted;
               };
@@ -69,21 +69,21 @@ module _ (n : ℕ) (ts hs w w₁ : List ℕ) (R : Readyable (map_of n (length ts
     module _ (ots ohs : List ℕ) (S : Sketchable n ts hs ots ohs w) (w₃ ots₁ ohs₁ : List ℕ) (r : ℕ)
         (D : Drawn w₂ w₃ n ts hs ots ohs ots₁ ohs₁ r) where
       -- they have room
-      drawn-fit : Arcs-fit ots ohs 0 D.arcs
-      drawn-fit =
-          record { tails = omega (arith, D.few, S.tails-room); heads = omega (arith, D.few, S.heads-room) }
+      drawn_fit : ArcsFit ots ohs 0 D.arcs
+      drawn_fit =
+          record { tails = omega (arith, D.few, S.tails_room); heads = omega (arith, D.few, S.heads_room) }
 
       -- they can be sorted
-      pub sort-asked : Sortable (rows_at n) ots₁ ohs₁ r w₃
-      sort-asked =
-          put-sortable drawn-fit D.put D.between w₃ R.fine.accepted.zones-most
-          (omega (arith, D.put.behind, D.few, fine-few R.fine)) (omega arith)
+      pub sort_asked : Sortable (rows_at n) ots₁ ohs₁ r w₃
+      sort_asked =
+          put_sortable drawn_fit D.put D.between w₃ R.fine.accepted.zones_most
+          (omega (arith, D.put.behind, D.few, fine_few R.fine)) (omega arith)
           (omega (
             arith,
             D.put.behind,
             D.few,
             R.room,
-            R.fine.accepted.zones-least,
+            R.fine.accepted.zones_least,
             A.standing.long,
             C.long,
             D.long,
@@ -92,38 +92,38 @@ module _ (n : ℕ) (ts hs w w₁ : List ℕ) (R : Readyable (map_of n (length ts
       -- w₄ is the memory after they are sorted
       module _ (w₄ ots₂ ohs₂ : List ℕ) (Q : Sorted (rows_at n) ots₁ ohs₁ r w₃ ots₂ ohs₂ w₄) where
         -- then they are the skeleton
-        skeleton-put : Arcs-put ots ohs ots₂ ohs₂ 0 (skeleton (handed n ts hs)) r
-        skeleton-put =
+        skeleton_put : ArcsPut ots ohs ots₂ ohs₂ 0 (skeleton (handed n ts hs)) r
+        skeleton_put =
             subst
-            (λ (es : List Arc). Arcs-put ots ohs ots₂ ohs₂ 0 es r)
+            (λ (es : List Arc). ArcsPut ots ohs ots₂ ohs₂ 0 es r)
             D.sorted
-            (put-sorted drawn-fit D.put D.between Q)
+            (put_sorted drawn_fit D.put D.between Q)
 
         -- behind the asked part the memory is as it came
-        behind : drop (asked-work n (length ts)) w₄ ≡ drop (asked-work n (length ts)) w
+        behind : drop (asked_work n (length ts)) w₄ ≡ drop (asked_work n (length ts)) w
         behind =
-            let asked = asked-work n (length ts) in
-            drop-deeper w₃ w₄ ((rows_at n).rows + r) asked
-            (omega (arith, D.put.behind, D.few, R.fine.accepted.zones-least)) Q.high
+            let asked = asked_work n (length ts) in
+            drop_deeper w₃ w₄ ((rows_at n).rows + r) asked
+            (omega (arith, D.put.behind, D.few, R.fine.accepted.zones_least)) Q.high
             ∙ D.beyond
-            ∙ drop-deeper w₁ w₂ (rows_at n).starts asked (omega arith) C.back
+            ∙ drop_deeper w₁ w₂ (rows_at n).starts asked (omega arith) C.back
             ∙ A.standing.beyond
 
         -- the skeleton is put
-        pub sketched : (w₅ : List ℕ) → w₅ ≡ cleared (asked-work n (length ts)) w₄ →
+        pub sketched : (w₅ : List ℕ) → w₅ ≡ cleared (asked_work n (length ts)) w₄ →
             Sketched n ts hs ots ohs w r ots₂ ohs₂ w₅
         sketched w₅ e =
             let N = handed n ts hs in
-            let fits : Arcs-fit ots ohs 0 (skeleton N) =
+            let fits : ArcsFit ots ohs 0 (skeleton N) =
             record {
-              tails = omega (arith, skeleton-put.behind, D.put.behind, drawn-fit.tails);
-              heads = omega (arith, skeleton-put.behind, D.put.behind, drawn-fit.heads);
+              tails = omega (arith, skeleton_put.behind, D.put.behind, drawn_fit.tails);
+              heads = omega (arith, skeleton_put.behind, D.put.behind, drawn_fit.heads);
             }
             in
-            let both = put-over ots ohs ots₂ ohs₂ r (skeleton N) fits skeleton-put in
+            let both = put_over ots ohs ots₂ ohs₂ r (skeleton N) fits skeleton_put in
             record {
-              count = omega (arith, skeleton-put.behind);
+              count = omega (arith, skeleton_put.behind);
               tails = both.0;
               heads = both.1;
-              work = e ∙ cleared-back (asked-work n (length ts)) w w₄ behind;
+              work = e ∙ cleared_back (asked_work n (length ts)) w w₄ behind;
             }

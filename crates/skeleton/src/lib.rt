@@ -1,7 +1,7 @@
 // SKELETON: the skeleton of a network, in two lent lists. The arcs are arranged in the work memory and the zones get
 // their names; the arcs of the skeleton are put out in no order, and then sorted by tail and head.
-ghost use Rattle.rules.specs.Answers.{skeleton-told};
-ghost use Rattle.rules.specs.Promises.{Skeleton-promise};
+ghost use Rattle.rules.specs.Answers.{skeleton_told};
+ghost use Rattle.rules.specs.Promises.{SkeletonPromise};
 ghost use Rattle.skeleton.specs.Promises.{Sketchable, Sketched};
 
 use arranged::ready;
@@ -47,9 +47,9 @@ pub fn skeleton(
     to: &mut [u16],
     work: &mut [u16],
 ) -> SkeletonAnswer
-    ensures { Skeleton-promise zones tails.now heads.now gone.now
+    ensures { SkeletonPromise zones tails.now heads.now gone.now
         from.old to.old work.old from.new to.new
-        work.new (skeleton-told result) }
+        work.new (skeleton_told result) }
 {
     let t = admission::skeleton(zones, tails, heads, gone, from, to, work);
     if let Tested::Refused(trouble) = t {

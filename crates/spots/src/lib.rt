@@ -1,14 +1,14 @@
 // The places of the components of a network in their topological order, in lent work memory.
 //   note_places   for each name its place, and once more the names in their order, behind the table
-ghost use Rattle.spots.specs.Spots.{Places-notable, Places-noted};
+ghost use Rattle.spots.specs.Spots.{PlacesNotable, PlacesNoted};
 
 use memory::wide;
 use workmap::PlacesAt;
 
 // Notes the place of each name, and the name of each place.
 pub fn note_places(work: &mut [u16], at: PlacesAt, places: usize)
-    requires { Places-notable work.old at places }
-    ensures { Places-noted work.old work.new at places }
+    requires { PlacesNotable work.old at places }
+    ensures { PlacesNoted work.old work.new at places }
 {
     let mut place = 0;
     while place < places {

@@ -1,6 +1,6 @@
 // The stations of an ordering's chain, put into lent work memory. The ordering's lists stand there too.
 ghost use Rattle.std.specs.Prelude.{◌≡◌, min};
-ghost use Rattle.stations.specs.Stations.{first-at, Lists-apart, Stationed};
+ghost use Rattle.stations.specs.Stations.{first_at, ListsApart, Stationed};
 
 use memory::copy;
 use workmap::Side;
@@ -23,7 +23,7 @@ pub fn one_of(n: usize) -> usize
 
 // Where the last station is found: the first pair's source, or the first zone alone where there is no pair.
 fn first_at(pairs: usize, v: usize, alone: usize) -> usize
-    ensures { result ≡ first-at pairs v alone }
+    ensures { result ≡ first_at pairs v alone }
 {
     if 0 < pairs { v } else { alone }
 }
@@ -31,7 +31,7 @@ fn first_at(pairs: usize, v: usize, alone: usize) -> usize
 // Puts the chain's stations into the work memory, and answers how many there are: the last pair's sink, the surplus
 // sinks, the zones alone, and the first pair's source or the first zone alone.
 pub fn put_stations(work: &mut [u16], n: Counts, p: Side) -> usize
-    requires { Lists-apart work.old n p }
+    requires { ListsApart work.old n p }
     ensures { Stationed work.old work.new n p result }
 {
     let last = one_of(n.pairs);

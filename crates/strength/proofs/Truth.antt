@@ -1,6 +1,6 @@
 -- What searches from a zone that remains tell of the network.
 --   swept             a search from a zone, and stamps, by which every zone is marked: it comes to all that remain
---   joined-truth      a zone comes to all that remain along the rows and along the turned rows: the network is strong
+--   joined_truth      a zone comes to all that remain along the rows and along the turned rows: the network is strong
 -- A network is strong exactly when one of its zones reaches every zone and every zone reaches it. The rows have all
 -- numbers; between zones that remain, reach is the same. Assumes nothing.
 use mathlib.Core.Path.{◌≡◌, ap, ◌∙◌}
@@ -11,39 +11,39 @@ use Prim.Native.Nat.{ℕ, ◌+◌, ◌≤◌, ◌<◌}
 use native.Mathlib.Omega.{arith}
 use Rattle.rules.specs.Lists.{listed}
 use Rattle.rules.specs.Network.{Network, Reach, remaining, strong}
-use Rattle.rules.specs.Calls.{arcs-of, handed, handed-with}
-use Rattle.theory.proofs.Files.Accepting.{Fine, Fine-with, fine-with-bridge}
-use Rattle.theory.proofs.Ground.Bools.{bool_cases, bool-agree, and-true, true-and}
-use Rattle.theory.proofs.Withdrawn.Remaining.{remaining-in, in-remaining, strong-from}
+use Rattle.rules.specs.Calls.{arcs_of, handed, handed_with}
+use Rattle.theory.proofs.Files.Accepting.{Fine, FineWith, fine_with_bridge}
+use Rattle.theory.proofs.Ground.Bools.{bool_cases, bool_agree, and_true, true_and}
+use Rattle.theory.proofs.Withdrawn.Remaining.{remaining_in, in_remaining, strong_from}
 use Rattle.workmap.specs.declared.RowsAt.{RowsAt}
 use Rattle.workmap.specs.declared.SearchAt.{SearchAt}
 use Rattle.workmap.specs.declared.Map.{Map}
 use Rattle.memory.specs.Regions.{cell}
 use Rattle.arranged.specs.Rows.{Entry, Run, rows_of}
 use Rattle.arranged.specs.Marks.{Marked}
-use Rattle.arranged.specs.Arranged.{Arranged-at}
+use Rattle.arranged.specs.Arranged.{ArrangedAt}
 use Rattle.arranged.specs.Ready.{Standing}
-use Rattle.arranged.proofs.ArrangedLaws.{turned-run-reach, reach-turned-run}
-use Rattle.arranged.proofs.ReadyLaws.{arcs-within}
+use Rattle.arranged.proofs.ArrangedLaws.{turned_run_reach, reach_turned_run}
+use Rattle.arranged.proofs.ReadyLaws.{arcs_within}
 use Rattle.search.specs.Marking.{Clear, Searched}
-use Rattle.search.proofs.Closed.{searched-clear}
+use Rattle.search.proofs.Closed.{searched_clear}
 use Rattle.search.proofs.Keeping.{kept_then}
 use Rattle.withdrawn.specs.Withdrawn.{stamped, Stamped}
-use Rattle.reaching.proofs.Truth.{run-reaches, reaches-run}
-use Rattle.strength.specs.Marks.{Says-all, Everywhere, Swept}
-use Rattle.strength.proofs.Memory.{stamped-kept}
+use Rattle.reaching.proofs.Truth.{run_reaches, reaches_run}
+use Rattle.strength.specs.Marks.{SaysAll, Everywhere, Swept}
+use Rattle.strength.proofs.Memory.{stamped_kept}
 
 -- a search, stamps at the withdrawn zones, and whether every zone is marked then: this says whether the search came to
 -- every zone that is not withdrawn
 pub swept : (w w₁ w₂ : List ℕ) (R : RowsAt) (S : SearchAt) (from : ℕ) (gone : List ℕ) {x : ℕ} (b : Bool) →
     S.marks + R.zones ≤ S.queue → Clear w S.marks R.zones → Searched w w₁ R S from → 0 < x →
-    Stamped w₁ w₂ S.marks R.zones gone x → Says-all w₂ S.marks R.zones b →
+    Stamped w₁ w₂ S.marks R.zones gone x → SaysAll w₂ S.marks R.zones b →
     Swept w w₂ R S from gone b
 swept w w₁ w₂ R S from gone {x} b apart clear D some T A =
     record {
-      kept = kept_then D.kept (stamped-kept S.queue apart T);
+      kept = kept_then D.kept (stamped_kept S.queue apart T);
       yes = λ e v h stays.
-          searched-clear w R.zones R.starts R.rows S.marks clear w₁ from S.queue D v h
+          searched_clear w R.zones R.starts R.rows S.marks clear w₁ from S.queue D v h
           (rw (unstamped v h stays) at (A.yes e v h));
       no = λ all. A.no (λ v h. marked all v h);
     }
@@ -66,59 +66,59 @@ swept w w₁ w₂ R S from gone {x} b apart clear D some T A =
 module _ (n : ℕ) (ts hs : List ℕ) (F : Fine n ts hs) where
   module _ (w : List ℕ) (R : RowsAt) (same : R.zones ≡ n) where
     -- a run along the turned rows is a reach the other way
-    back-reaches : Arranged-at w R (arcs-of hs ts) → {a b : ℕ} → Run (Entry (rows_of w R)) a b →
+    back_reaches : ArrangedAt w R (arcs_of hs ts) → {a b : ℕ} → Run (Entry (rows_of w R)) a b →
         Reach (handed n ts hs) b a
     unfolding handed
-    back-reaches A r = rw same at (turned-run-reach ts hs w R A r)
+    back_reaches A r = rw same at (turned_run_reach ts hs w R A r)
 
     -- a reach is a run along the turned rows the other way
-    reaches-back : Arranged-at w R (arcs-of hs ts) → {a b : ℕ} → Reach (handed n ts hs) b a →
+    reaches_back : ArrangedAt w R (arcs_of hs ts) → {a b : ℕ} → Reach (handed n ts hs) b a →
         Run (Entry (rows_of w R)) a b
     unfolding handed
-    reaches-back A r = reach-turned-run ts hs w R A (rw same (arcs-within n ts hs F)) (rw same r)
+    reaches_back A r = reach_turned_run ts hs w R A (rw same (arcs_within n ts hs F)) (rw same r)
 
 -- the withdrawn numbers, and a zone that remains
-module _ (n : ℕ) (ts hs gone : List ℕ) (F : Fine-with n ts hs gone) (from : ℕ) (i : In from (remaining n gone)) where
+module _ (n : ℕ) (ts hs gone : List ℕ) (F : FineWith n ts hs gone) (from : ℕ) (i : In from (remaining n gone)) where
   -- the network of the zones that remain
   abbrev N : Network
-  N = handed-with n ts hs gone
+  N = handed_with n ts hs gone
 
   -- it is strong exactly where the zone reaches all that remain and all of them reach it, in the network of all numbers
   hub : (strong N ≡ true) ↔
       ((v : ℕ) → v < n → listed gone v ≡ false → Reach (handed n ts hs) from v × Reach (handed n ts hs) v from)
-  unfolding handed-with
+  unfolding handed_with
   hub =
-      let B = fine-with-bridge n ts hs gone F in
-      let one = strong-from B.proper i in (
+      let B = fine_with_bridge n ts hs gone F in
+      let one = strong_from B.proper i in (
         λ e v h stays.
-            let r = one.0 e v (in-remaining n gone h stays) in
-            (B.reach-is.0 r.0, B.reach-is.0 r.1),
+            let r = one.0 e v (in_remaining n gone h stays) in
+            (B.reach_is.0 r.0, B.reach_is.0 r.1),
         λ all.
             one.1
             (λ v m.
-            let l = remaining-in n gone m in
+            let l = remaining_in n gone m in
             let r = all v l.0 l.1 in
-            (B.reach-is.1 r.0, B.reach-is.1 r.1)),
+            (B.reach_is.1 r.0, B.reach_is.1 r.1)),
       )
 
   -- both sweeps say yes exactly where the network is strong
-  pub joined-truth : (before w w' v v' : List ℕ) (m : Map) (S T : SearchAt) (there back : Bool) →
+  pub joined_truth : (before w w' v v' : List ℕ) (m : Map) (S T : SearchAt) (there back : Bool) →
       m.rows.zones ≡ n → m.turned.zones ≡ n → Standing before w m ts hs → Standing before v m ts hs →
       Swept w w' m.rows S from gone there → Swept v v' m.turned T from gone back → (there && back) ≡ strong N
-  joined-truth before w w' v v' m S T there back one two U K A B =
-      bool-agree
+  joined_truth before w w' v v' m S T there back one two U K A B =
+      bool_agree
       (λ e.
-      let both = and-true there back e in
+      let both = and_true there back e in
       hub.1
       (λ x h stays. (
-        run-reaches n ts hs F.fine w m.rows one U.rows (A.yes both.0 x (omega arith) stays),
-        back-reaches n ts hs F.fine v m.turned two K.turned (B.yes both.1 x (omega arith) stays),
+        run_reaches n ts hs F.fine w m.rows one U.rows (A.yes both.0 x (omega arith) stays),
+        back_reaches n ts hs F.fine v m.turned two K.turned (B.yes both.1 x (omega arith) stays),
       )))
       (λ e.
-      true-and
+      true_and
       (A.no
       (λ x h stays.
-      reaches-run n ts hs F.fine w m.rows one U.rows (hub.0 e x (omega arith) stays).0))
+      reaches_run n ts hs F.fine w m.rows one U.rows (hub.0 e x (omega arith) stays).0))
       (B.no
       (λ x h stays.
-      reaches-back n ts hs F.fine v m.turned two K.turned (hub.0 e x (omega arith) stays).1)))
+      reaches_back n ts hs F.fine v m.turned two K.turned (hub.0 e x (omega arith) stays).1)))

@@ -2,10 +2,10 @@
 // zone that is not withdrawn comes to all others along the arcs, and against them.
 ghost use Rattle.std.specs.Prelude.{◌≡◌, ◌&&◌, ◌+◌, ◌≤◌, length};
 ghost use Rattle.rules.specs.Network.{strong};
-ghost use Rattle.rules.specs.Calls.{handed-with};
-ghost use Rattle.withdrawn.specs.Withdrawn.{Ready-with};
+ghost use Rattle.rules.specs.Calls.{handed_with};
+ghost use Rattle.withdrawn.specs.Withdrawn.{ReadyWith};
 ghost use Rattle.reaching.specs.Questions.{Answered};
-ghost use Rattle.strength.specs.Marks.{Says-all, Sweepable, Swept};
+ghost use Rattle.strength.specs.Marks.{SaysAll, Sweepable, Swept};
 
 use arranged::both_ways;
 use memory::clear;
@@ -16,7 +16,7 @@ use workmap::{Map, RowsAt, SearchAt};
 // Whether each of the zones has a mark.
 fn all_marked(work: &[u16], marks: usize, zones: usize) -> bool
     requires { marks + zones ≤ length work.now }
-    ensures { Says-all work.now marks zones result }
+    ensures { SaysAll work.now marks zones result }
 {
     let mut i = 0;
     while i < zones {
@@ -52,9 +52,9 @@ fn sweep(work: &mut [u16], rows: RowsAt, at: SearchAt, from: usize, gone: &[u16]
 // Whether the lowest zone that is not withdrawn comes to all others along the arcs, and against them. Only the marks
 // have to be clear beforehand, and they lie below the second queue.
 pub fn joined(m: Map, tails: &[u16], heads: &[u16], gone: &[u16], work: &mut [u16]) -> bool
-    requires { Ready-with m tails.now heads.now gone.now work.old }
+    requires { ReadyWith m tails.now heads.now gone.now work.old }
     ensures { Answered result
-        (strong (handed-with m.zones tails.now heads.now gone.now))
+        (strong (handed_with m.zones tails.now heads.now gone.now))
         m.asked work.old work.new }
 {
     let asked = m.asked;

@@ -1,7 +1,7 @@
 // The survey of a network: its rows are arranged both ways, its components named, and the names of each kind listed,
 // the withdrawn zones left out.
-ghost use Rattle.rules.specs.Calls.{handed-with};
-ghost use Rattle.withdrawn.specs.Withdrawn.{Ready-with};
+ghost use Rattle.rules.specs.Calls.{handed_with};
+ghost use Rattle.withdrawn.specs.Withdrawn.{ReadyWith};
 ghost use Rattle.survey.specs.Survey.{Surveyed};
 
 use arranged::ready;
@@ -11,9 +11,9 @@ use workmap::Map;
 
 // Arranges the rows both ways, names the components, lists the names of each kind, and answers how many there are.
 pub fn survey(m: Map, tails: &[u16], heads: &[u16], gone: &[u16], work: &mut [u16]) -> Counts
-    requires { Ready-with m tails.now heads.now gone.now work.old }
+    requires { ReadyWith m tails.now heads.now gone.now work.old }
     ensures { Surveyed work.old work.new m
-        (handed-with m.zones tails.now heads.now gone.now) result }
+        (handed_with m.zones tails.now heads.now gone.now) result }
 {
     ready(m, tails, heads, work);
     name_all(work, m);

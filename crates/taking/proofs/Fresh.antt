@@ -1,6 +1,6 @@
 -- When a head is fresh: it is of the block, and not in the row.
---   fresh-before, fresh-after, fresh-inside    a number before the block, behind it, and in it
---   fresh-true                                 what a fresh number is
+--   fresh_before, fresh_after, fresh_inside    a number before the block, behind it, and in it
+--   fresh_true                                 what a fresh number is
 -- By the tests that `fresh` is made of. Assumes nothing.
 use mathlib.Core.Path.{◌≡◌}
 use mathlib.Core.Bool.{true, false, not, ◌&&◌}
@@ -8,30 +8,30 @@ use mathlib.Core.List.{List}
 use Prim.Native.Nat.{ℕ, ◌-◌, ◌≤◌, ◌<◌}
 use borrow.Author.Tests.{lt-leb, le-leb, lt-ltb, le-ltb, leb-true, ltb-true}
 use lib.Dec.{leb, ltb}
-use Rattle.theory.proofs.Ground.Bools.{and-true, not-true}
+use Rattle.theory.proofs.Ground.Bools.{and_true, not_true}
 use Rattle.bits.specs.Bits.{bit_in}
 use Rattle.taking.specs.Taking.{fresh}
 
 module _ (w : List ℕ) (first j k : ℕ) where
   -- a number before the block is not fresh
-  pub fresh-before : k < first → false ≡ fresh w first j k
+  pub fresh_before : k < first → false ≡ fresh w first j k
   unfolding fresh
-  fresh-before h = rw (lt-leb first k h)
+  fresh_before h = rw (lt-leb first k h)
 
   -- nor is one behind it
-  pub fresh-after : first ≤ k → 128 ≤ k - first → false ≡ fresh w first j k
+  pub fresh_after : first ≤ k → 128 ≤ k - first → false ≡ fresh w first j k
   unfolding fresh
-  fresh-after l h = rw (le-leb first k l, le-ltb (k - first) 128 h)
+  fresh_after l h = rw (le-leb first k l, le-ltb (k - first) 128 h)
 
   -- one of the block is fresh where it is not in row j
-  pub fresh-inside : first ≤ k → k - first < 128 → not (bit_in w 8 j (k - first)) ≡ fresh w first j k
+  pub fresh_inside : first ≤ k → k - first < 128 → not (bit_in w 8 j (k - first)) ≡ fresh w first j k
   unfolding fresh
-  fresh-inside l h = rw (le-leb first k l, lt-ltb (k - first) 128 h)
+  fresh_inside l h = rw (le-leb first k l, lt-ltb (k - first) 128 h)
 
   -- what a fresh number is
-  pub fresh-true : fresh w first j k ≡ true → (first ≤ k) × ((k - first < 128) × (bit_in w 8 j (k - first) ≡ false))
+  pub fresh_true : fresh w first j k ≡ true → (first ≤ k) × ((k - first < 128) × (bit_in w 8 j (k - first) ≡ false))
   unfolding fresh
-  fresh-true h =
-      let t = and-true (leb first k && ltb (k - first) 128) (not (bit_in w 8 j (k - first))) h in
-      let s = and-true (leb first k) (ltb (k - first) 128) t.0 in
-      (leb-true first k s.0, (ltb-true (k - first) 128 s.1, not-true (bit_in w 8 j (k - first)) t.1))
+  fresh_true h =
+      let t = and_true (leb first k && ltb (k - first) 128) (not (bit_in w 8 j (k - first))) h in
+      let s = and_true (leb first k) (ltb (k - first) 128) t.0 in
+      (leb-true first k s.0, (ltb-true (k - first) 128 s.1, not_true (bit_in w 8 j (k - first)) t.1))

@@ -2,14 +2,14 @@
 -- each of the 128 components from `first` on.
 --   fresh w first j k     k is of the block, and not in row j
 --   taken w first j k     k is put into row j where it is fresh
---   taken-arcs ..         the arc from j to k, with their names, where k is fresh
---   Head-taken ..         one head of a component was taken
+--   taken_arcs ..         the arc from j to k, with their names, where k is fresh
+--   HeadTaken ..         one head of a component was taken
 -- A head that stands twice is fresh once, so no arc is put twice.
 use Rattle.std.specs.Prelude.{◌≡◌, Bool, true, false, not, ◌&&◌, List, [], ◌∷◌, ℕ, ◌-◌, leb, ltb}
 use Rattle.rules.specs.Network.{Arc, ◌⟶◌}
 use Rattle.memory.specs.Regions.{cell}
-use Rattle.memory.specs.Putting.{Arcs-put}
-use Rattle.bits.specs.Bits.{bit_in, with-bit}
+use Rattle.memory.specs.Putting.{ArcsPut}
+use Rattle.bits.specs.Bits.{bit_in, with_bit}
 use Rattle.uniting.specs.declared.Block.{Block}
 
 -- k is of the block, and not in row j
@@ -19,15 +19,15 @@ fresh w first j k = (leb first k && ltb (k - first) 128) && not (bit_in w 8 j (k
 
 -- k is put into row j where it is fresh
 unfoldable pub taken : List ℕ → ℕ → ℕ → ℕ → List ℕ
-unfolding fresh with-bit
-taken w first j k = elim (fresh w first j k) [ true ↦ with-bit w 8 j (k - first) | false ↦ w ]
+unfolding fresh with_bit
+taken w first j k = elim (fresh w first j k) [ true ↦ with_bit w 8 j (k - first) | false ↦ w ]
 
 -- the arc from j to k, where k is fresh; `top` has the names
-unfoldable pub taken-arcs : (ℕ → ℕ) → List ℕ → ℕ → ℕ → ℕ → List Arc
+unfoldable pub taken_arcs : (ℕ → ℕ) → List ℕ → ℕ → ℕ → ℕ → List Arc
 unfolding fresh
-taken-arcs top w first j k = elim (fresh w first j k) [ true ↦ (top j ⟶ top k) ∷ [] | false ↦ [] ]
+taken_arcs top w first j k = elim (fresh w first j k) [ true ↦ (top j ⟶ top k) ∷ [] | false ↦ [] ]
 
 -- the head k of component j was taken
-pub record Head-taken (w w' : List ℕ) (b : Block) (j k : ℕ) (ts hs ts' hs' : List ℕ) (at r : ℕ) : Type 0 where
+pub record HeadTaken (w w' : List ℕ) (b : Block) (j k : ℕ) (ts hs ts' hs' : List ℕ) (at r : ℕ) : Type 0 where
   pub memory : w' ≡ taken w b.first j k
-  pub put : Arcs-put ts hs ts' hs' at (taken-arcs (cell w b.tops) w b.first j k) r
+  pub put : ArcsPut ts hs ts' hs' at (taken_arcs (cell w b.tops) w b.first j k) r

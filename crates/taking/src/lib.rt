@@ -2,9 +2,9 @@
 // component's row yet. The crate `turning` tells the method.
 ghost use Rattle.std.specs.Prelude.{◌≡◌, ◌+◌, ◌*◌, ◌≤◌, ◌<◌, length};
 ghost use Rattle.memory.specs.Regions.{cell};
-ghost use Rattle.memory.specs.Putting.{Arcs-fit};
-ghost use Rattle.uniting.specs.Uniting.{Block-laid};
-ghost use Rattle.taking.specs.Taking.{fresh, taken-arcs, Head-taken};
+ghost use Rattle.memory.specs.Putting.{ArcsFit};
+ghost use Rattle.uniting.specs.Uniting.{BlockLaid};
+ghost use Rattle.taking.specs.Taking.{fresh, taken_arcs, HeadTaken};
 
 use bits::{has_bit, set_bit};
 use uniting::Block;
@@ -35,11 +35,11 @@ pub fn take(
     heads: &mut [u16],
     at: usize,
 ) -> usize
-    requires block_laid { Block-laid work.old b }
+    requires block_laid { BlockLaid work.old b }
     requires j_lt_places { (j < b.places) × (k < b.places) }
-    requires arcs_fit { Arcs-fit tails.old heads.old at
-        (taken-arcs (cell work.old b.tops) work.old b.first j k) }
-    ensures { Head-taken work.old work.new b j k tails.old
+    requires arcs_fit { ArcsFit tails.old heads.old at
+        (taken_arcs (cell work.old b.tops) work.old b.first j k) }
+    ensures { HeadTaken work.old work.new b j k tails.old
         heads.old tails.new heads.new at result }
 {
     if !is_fresh(work, b.first, j, k) {

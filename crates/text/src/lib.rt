@@ -3,7 +3,7 @@
 ghost use Rattle.std.specs.Prelude.{◌+◌, ◌*◌, ◌≤◌, length};
 ghost use Rattle.buffer.specs.Put.{Written};
 ghost use Rattle.lines.specs.Lines.{lines_of};
-ghost use Rattle.text.specs.Texts.{plan-text, Putable, answer-lines};
+ghost use Rattle.text.specs.Texts.{plan_text, Putable, answer_lines};
 
 use buffer::put_bytes;
 use lines::put_lines;
@@ -15,7 +15,7 @@ fn say_plan(out: &mut [u8], at: usize, f: Figures, from: &[u16], to: &[u16], why
     requires need_in_bounds { (f.need ≤ length from.now) × ((f.need ≤ length to.now) × (f.need ≤ length why.now)) }
     requires need_in_bounds_2 { at + 200 + 18 * f.need ≤ length out.old }
     ensures { Written out.old at
-        (plan-text f (lines_of from.now to.now why.now f.need))
+        (plan_text f (lines_of from.now to.now why.now f.need))
         result out.new }
 {
     let a = put_head(out, at, f);
@@ -35,7 +35,7 @@ pub fn put_answer(
 ) -> usize
     requires { Putable answer from.now to.now why.now out.old }
     ensures { Written out.old 0
-        (answer-lines zones arcs answer from.now to.now why.now)
+        (answer_lines zones arcs answer from.now to.now why.now)
         result out.new }
 {
     match answer {

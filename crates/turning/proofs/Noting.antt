@@ -9,136 +9,136 @@ use native.Mathlib.Omega.{arith}
 use lib.ListN.{length, get_or, drop, length-append, length-map}
 use Rattle.rules.specs.Network.{Arc, ◌⟶◌}
 use Rattle.memory.specs.Regions.{cell}
-use Rattle.memory.specs.Putting.{Arcs-fit, Arcs-put}
-use Rattle.memory.proofs.Puts.{put-none, put_then, put-long}
+use Rattle.memory.specs.Putting.{ArcsFit, ArcsPut}
+use Rattle.memory.proofs.Puts.{put_none, put_then, put_long}
 use Rattle.bits.proofs.Tables.{row_room}
 use Rattle.uniting.specs.declared.Block.{Block}
-use Rattle.taking.specs.Taking.{taken, taken-arcs}
-use Rattle.turning.specs.Steps.{noted, kept-heads, noted-arcs}
-use Rattle.uniting.specs.Uniting.{row-heads, Block-laid}
-use Rattle.taking.specs.Taking.{Head-taken}
-use Rattle.turning.specs.Contract.{Row-noted}
-use Rattle.taking.proofs.Taken.{taken-long, taken-behind}
-use Rattle.uniting.proofs.Behind.{tops-kept, laid_kept}
-use Rattle.uniting.proofs.HeadsLeft.{left-of, Heads-left, left-all, left-start, left-none, left-more, left-low}
-use Rattle.uniting.proofs.HeadsLeft.{left-cons}
-use Rattle.taking.proofs.Taking.{taken-heads, taken-map}
+use Rattle.taking.specs.Taking.{taken, taken_arcs}
+use Rattle.turning.specs.Steps.{noted, kept_heads, noted_arcs}
+use Rattle.uniting.specs.Uniting.{row_heads, BlockLaid}
+use Rattle.taking.specs.Taking.{HeadTaken}
+use Rattle.turning.specs.Contract.{RowNoted}
+use Rattle.taking.proofs.Taken.{taken_long, taken_behind}
+use Rattle.uniting.proofs.Behind.{tops_kept, laid_kept}
+use Rattle.uniting.proofs.HeadsLeft.{left_of, HeadsLeft, left_all, left_start, left_none, left_more, left_low}
+use Rattle.uniting.proofs.HeadsLeft.{left_cons}
+use Rattle.taking.proofs.Taking.{taken_heads, taken_map}
 use Rattle.turning.proofs.Kept.{kept_step}
 
 -- the arcs from component j to some others, with their names
-abbrev arcs-to : List ℕ → Block → ℕ → List ℕ → List Arc
-arcs-to w b j ks = map (λ k. cell w b.tops j ⟶ cell w b.tops k) ks
+abbrev arcs_to : List ℕ → Block → ℕ → List ℕ → List Arc
+arcs_to w b j ks = map (λ k. cell w b.tops j ⟶ cell w b.tops k) ks
 
 -- all heads but the last `left` are taken
 pub record Noting (w u : List ℕ) (b : Block) (j : ℕ) (ts hs ts' hs' : List ℕ) (p to left next : ℕ) : Type 0 where
-  pub rest : Heads-left w b j to left
+  pub rest : HeadsLeft w b j to left
   pub long : length u ≡ length w
   pub behind : drop (b.places * 8) u ≡ drop (b.places * 8) w
   pub out : List ℕ
-  pub memory : noted u b.first j (left-of w to left) ≡ noted w b.first j (row-heads w b j)
-  pub still : out ++ kept-heads u b.first j (left-of w to left) ≡ kept-heads w b.first j (row-heads w b j)
-  pub put : Arcs-put ts hs ts' hs' p (arcs-to w b j out) next
+  pub memory : noted u b.first j (left_of w to left) ≡ noted w b.first j (row_heads w b j)
+  pub still : out ++ kept_heads u b.first j (left_of w to left) ≡ kept_heads w b.first j (row_heads w b j)
+  pub put : ArcsPut ts hs ts' hs' p (arcs_to w b j out) next
 
 -- at first none is
-pub note-start : {w : List ℕ} {b : Block} → Block-laid w b → (j : ℕ) → j < b.places → (at to : ℕ) →
+pub note_start : {w : List ℕ} {b : Block} → BlockLaid w b → (j : ℕ) → j < b.places → (at to : ℕ) →
     at ≡ b.rows + cell w b.starts j → to ≡ b.rows + cell w b.starts (j + 1) → (ts hs : List ℕ) (p : ℕ) →
     Noting w w b j ts hs ts hs p to (to - at) p
-note-start {w} {b} L j h at to from end ts hs p =
+note_start {w} {b} L j h at to from end ts hs p =
     record {
-      rest = left-start L j h at to from end;
+      rest = left_start L j h at to from end;
       long = refl;
       behind = refl;
       out = [];
-      memory = ap (noted w b.first j) (left-all L j h at to from end);
-      still = ap (kept-heads w b.first j) (left-all L j h at to from end);
-      put = put-none ts hs p;
+      memory = ap (noted w b.first j) (left_all L j h at to from end);
+      still = ap (kept_heads w b.first j) (left_all L j h at to from end);
+      put = put_none ts hs p;
     }
 
-module _ {w u : List ℕ} {b : Block} {j : ℕ} {ts hs ts' hs' : List ℕ} {p to left next : ℕ} (L : Block-laid w b)
+module _ {w u : List ℕ} {b : Block} {j : ℕ} {ts hs ts' hs' : List ℕ} {p to left next : ℕ} (L : BlockLaid w b)
     (l : j < b.places) (T : Noting w u b j ts hs ts' hs' p to left next) (h : 0 < left) (k : ℕ)
     (e : k ≡ get_or u (to - left) 0) where
   -- names and rows still stand behind the table
-  pub note-laid : Block-laid u b
-  note-laid = laid_kept L u T.behind T.long
+  pub note_laid : BlockLaid u b
+  note_laid = laid_kept L u T.behind T.long
 
   -- the next head is a place
-  pub note-low : k < b.places
-  note-low = left-low T.rest h L u T.behind k e
+  pub note_low : k < b.places
+  note_low = left_low T.rest h L u T.behind k e
 
   -- what is left of the row begins with it
-  ahead : left-of w to left ≡ k ∷ left-of w to (left - 1)
-  ahead = left-cons T.rest h L u T.behind k e
+  ahead : left_of w to left ≡ k ∷ left_of w to (left - 1)
+  ahead = left_cons T.rest h L u T.behind k e
 
   -- the heads that are kept, with this one
   abbrev more : List ℕ
-  more = T.out ++ taken-heads u b.first j k
+  more = T.out ++ taken_heads u b.first j k
 
   -- and those that are still to be kept
-  grown : more ++ kept-heads (taken u b.first j k) b.first j (left-of w to (left - 1))
-      ≡ kept-heads w b.first j (row-heads w b j)
+  grown : more ++ kept_heads (taken u b.first j k) b.first j (left_of w to (left - 1))
+      ≡ kept_heads w b.first j (row_heads w b j)
   grown =
-      append_assoc T.out (taken-heads u b.first j k) _
-      ∙ ap (λ (x : List ℕ). T.out ++ x) (sym (kept_step u b.first j k (left-of w to (left - 1))))
-      ∙ ap (λ (x : List ℕ). T.out ++ kept-heads u b.first j x) (sym ahead)
+      append_assoc T.out (taken_heads u b.first j k) _
+      ∙ ap (λ (x : List ℕ). T.out ++ x) (sym (kept_step u b.first j k (left_of w to (left - 1))))
+      ∙ ap (λ (x : List ℕ). T.out ++ kept_heads u b.first j x) (sym ahead)
       ∙ T.still
 
   -- its arc, with the names as they came
-  arc-now : taken-arcs (cell u b.tops) u b.first j k ≡ arcs-to w b j (taken-heads u b.first j k)
-  arc-now =
-      ap (λ (top : ℕ → ℕ). taken-arcs top u b.first j k) (tops-kept L u T.behind)
-      ∙ taken-map u b.first j k (cell w b.tops)
+  arc_now : taken_arcs (cell u b.tops) u b.first j k ≡ arcs_to w b j (taken_heads u b.first j k)
+  arc_now =
+      ap (λ (top : ℕ → ℕ). taken_arcs top u b.first j k) (tops_kept L u T.behind)
+      ∙ taken_map u b.first j k (cell w b.tops)
 
   -- there is room for it
-  pub note-room : Arcs-fit ts hs p (noted-arcs (cell w b.tops) w b.first j (row-heads w b j)) →
-      Arcs-fit ts' hs' next (taken-arcs (cell u b.tops) u b.first j k)
-  unfolding noted-arcs
-  note-room R =
+  pub note_room : ArcsFit ts hs p (noted_arcs (cell w b.tops) w b.first j (row_heads w b j)) →
+      ArcsFit ts' hs' next (taken_arcs (cell u b.tops) u b.first j k)
+  unfolding noted_arcs
+  note_room R =
       let f : ℕ → Arc = λ x. cell w b.tops j ⟶ cell w b.tops x in
       let all = ap length grown in
-      let one = length-append more (kept-heads (taken u b.first j k) b.first j (left-of w to (left - 1))) in
-      let two = length-append T.out (taken-heads u b.first j k) in
-      let arcs = ap length arc-now in
-      let new = length-map (taken-heads u b.first j k) f in
+      let one = length-append more (kept_heads (taken u b.first j k) b.first j (left_of w to (left - 1))) in
+      let two = length-append T.out (taken_heads u b.first j k) in
+      let arcs = ap length arc_now in
+      let new = length-map (taken_heads u b.first j k) f in
       let old = length-map T.out f in
-      let whole = length-map (kept-heads w b.first j (row-heads w b j)) f in
-      let long = put-long T.put in
+      let whole = length-map (kept_heads w b.first j (row_heads w b j)) f in
+      let long = put_long T.put in
       record {
         tails = omega (arith, all, one, two, arcs, new, old, whole, long.0, R.tails, T.put.behind);
         heads = omega (arith, all, one, two, arcs, new, old, whole, long.1, R.heads, T.put.behind);
       }
 
   -- one head more
-  pub note-turn : (v ts'' hs'' : List ℕ) (r : ℕ) → Head-taken u v b j k ts' hs' ts'' hs'' next r →
+  pub note_turn : (v ts'' hs'' : List ℕ) (r : ℕ) → HeadTaken u v b j k ts' hs' ts'' hs'' next r →
       Noting w v b j ts hs ts'' hs'' p to (left - 1) r
   unfolding noted
-  note-turn v ts'' hs'' r K =
+  note_turn v ts'' hs'' r K =
       record {
-        rest = left-more T.rest h;
-        long = ap length K.memory ∙ taken-long u b.first j k ∙ T.long;
+        rest = left_more T.rest h;
+        long = ap length K.memory ∙ taken_long u b.first j k ∙ T.long;
         behind =
             ap (drop (b.places * 8)) K.memory
-            ∙ taken-behind (b.places * 8) u b.first j k (row_room 8 b.places j l)
+            ∙ taken_behind (b.places * 8) u b.first j k (row_room 8 b.places j l)
             ∙ T.behind;
         out = more;
         memory =
-            ap (λ (x : List ℕ). noted x b.first j (left-of w to (left - 1))) K.memory
+            ap (λ (x : List ℕ). noted x b.first j (left_of w to (left - 1))) K.memory
             ∙ ap (noted u b.first j) (sym ahead)
             ∙ T.memory;
         still =
-            ap (λ (x : List ℕ). more ++ kept-heads x b.first j (left-of w to (left - 1))) K.memory ∙ grown;
+            ap (λ (x : List ℕ). more ++ kept_heads x b.first j (left_of w to (left - 1))) K.memory ∙ grown;
         put =
-            rw (map-append (λ x. cell w b.tops j ⟶ cell w b.tops x) T.out (taken-heads u b.first j k))
-            (put_then T.put (rw arc-now at K.put));
+            rw (map-append (λ x. cell w b.tops j ⟶ cell w b.tops x) T.out (taken_heads u b.first j k))
+            (put_then T.put (rw arc_now at K.put));
       }
 
 -- all of them
-pub note-end : {w u : List ℕ} {b : Block} {j : ℕ} {ts hs ts' hs' : List ℕ} {p to left next : ℕ} →
-    Noting w u b j ts hs ts' hs' p to left next → left ≤ 0 → Row-noted w u b j ts hs ts' hs' p next
-unfolding noted kept-heads noted-arcs
-note-end {w} {u} {b} {j} {ts} {hs} {ts'} {hs'} {p} {to} {left} {next} T h =
-    let none = left-none w to left h in
-    let all : T.out ≡ kept-heads w b.first j (row-heads w b j) =
-    sym (append-nil T.out) ∙ ap (λ (x : List ℕ). T.out ++ kept-heads u b.first j x) (sym none) ∙ T.still in
+pub note_end : {w u : List ℕ} {b : Block} {j : ℕ} {ts hs ts' hs' : List ℕ} {p to left next : ℕ} →
+    Noting w u b j ts hs ts' hs' p to left next → left ≤ 0 → RowNoted w u b j ts hs ts' hs' p next
+unfolding noted kept_heads noted_arcs
+note_end {w} {u} {b} {j} {ts} {hs} {ts'} {hs'} {p} {to} {left} {next} T h =
+    let none = left_none w to left h in
+    let all : T.out ≡ kept_heads w b.first j (row_heads w b j) =
+    sym (append-nil T.out) ∙ ap (λ (x : List ℕ). T.out ++ kept_heads u b.first j x) (sym none) ∙ T.still in
     record {
       memory = ap (noted u b.first j) (sym none) ∙ T.memory;
       put = rw all at T.put;

@@ -1,9 +1,9 @@
 -- The turn of one component, as functions of the memory: row j of the table, eight elements from j * 8 on, has a bit
 -- for each of the 128 components from `first` on.
 --   noted w first j ks    R: each of the heads ks is taken
---   kept-heads w first j ks   those of the heads that were fresh
---   noted-arcs ..         the arcs from j to these, with their names
---   place-turned, place-arcs   U and then R, and the arcs that stay: those to heads that were not in U
+--   kept_heads w first j ks   those of the heads that were fresh
+--   noted_arcs ..         the arcs from j to these, with their names
+--   place_turned, place_arcs   U and then R, and the arcs that stay: those to heads that were not in U
 -- Each goes as its loop goes.
 use Rattle.std.specs.Prelude.{ℕ, true, false, List, [], ◌∷◌, map}
 use Rattle.rules.specs.Network.{Arc, ◌⟶◌}
@@ -17,23 +17,23 @@ noted w first j [] = w
 noted w first j (k ∷ ks) = noted (taken w first j k) first j ks
 
 -- those of the heads that were fresh
-unfoldable pub kept-heads : List ℕ → ℕ → ℕ → List ℕ → List ℕ
+unfoldable pub kept_heads : List ℕ → ℕ → ℕ → List ℕ → List ℕ
 unfolding taken
-kept-heads w first j [] = []
-kept-heads w first j (k ∷ ks) =
-    elim (fresh w first j k) [ true ↦ k ∷ kept-heads (taken w first j k) first j ks | false ↦ kept-heads w first j ks ]
+kept_heads w first j [] = []
+kept_heads w first j (k ∷ ks) =
+    elim (fresh w first j k) [ true ↦ k ∷ kept_heads (taken w first j k) first j ks | false ↦ kept_heads w first j ks ]
 
 -- the arcs from j to these
-unfoldable pub noted-arcs : (ℕ → ℕ) → List ℕ → ℕ → ℕ → List ℕ → List Arc
-unfolding kept-heads
-noted-arcs top w first j ks = map (λ k. top j ⟶ top k) (kept-heads w first j ks)
+unfoldable pub noted_arcs : (ℕ → ℕ) → List ℕ → ℕ → ℕ → List ℕ → List Arc
+unfolding kept_heads
+noted_arcs top w first j ks = map (λ k. top j ⟶ top k) (kept_heads w first j ks)
 
 -- the turn of component j, whose heads are ks: U, and then R
-unfoldable pub place-turned : List ℕ → ℕ → ℕ → List ℕ → List ℕ
+unfoldable pub place_turned : List ℕ → ℕ → ℕ → List ℕ → List ℕ
 unfolding united noted
-place-turned w first j ks = noted (united w j ks) first j ks
+place_turned w first j ks = noted (united w j ks) first j ks
 
 -- the arcs that stay: those to heads that are not in U
-unfoldable pub place-arcs : (ℕ → ℕ) → List ℕ → ℕ → ℕ → List ℕ → List Arc
-unfolding united noted-arcs
-place-arcs top w first j ks = noted-arcs top (united w j ks) first j ks
+unfoldable pub place_arcs : (ℕ → ℕ) → List ℕ → ℕ → ℕ → List ℕ → List Arc
+unfolding united noted_arcs
+place_arcs top w first j ks = noted_arcs top (united w j ks) first j ks

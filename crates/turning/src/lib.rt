@@ -8,10 +8,10 @@
 // The names of the components, and their rows of heads, which are places too, stand behind the table.
 ghost use Rattle.std.specs.Prelude.{◌<◌};
 ghost use Rattle.memory.specs.Regions.{cell};
-ghost use Rattle.memory.specs.Putting.{Arcs-fit};
-ghost use Rattle.uniting.specs.Uniting.{row-heads, Block-laid};
-ghost use Rattle.turning.specs.Steps.{noted-arcs, place-arcs};
-ghost use Rattle.turning.specs.Contract.{Row-noted, Place-turned};
+ghost use Rattle.memory.specs.Putting.{ArcsFit};
+ghost use Rattle.uniting.specs.Uniting.{row_heads, BlockLaid};
+ghost use Rattle.turning.specs.Steps.{noted_arcs, place_arcs};
+ghost use Rattle.turning.specs.Contract.{RowNoted, PlaceTurned};
 
 use memory::wide;
 use taking::take;
@@ -26,11 +26,11 @@ fn note(
     heads: &mut [u16],
     put: usize,
 ) -> usize
-    requires block_laid { Block-laid work.old b }
+    requires block_laid { BlockLaid work.old b }
     requires j_lt_places { j < b.places }
-    requires arcs_fit { Arcs-fit tails.old heads.old put
-        (noted-arcs (cell work.old b.tops) work.old b.first j (row-heads work.old b j)) }
-    ensures { Row-noted work.old work.new b j tails.old
+    requires arcs_fit { ArcsFit tails.old heads.old put
+        (noted_arcs (cell work.old b.tops) work.old b.first j (row_heads work.old b j)) }
+    ensures { RowNoted work.old work.new b j tails.old
         heads.old tails.new heads.new put result }
 {
     let to = heads_at(work, b, j + 1);
@@ -54,11 +54,11 @@ pub fn turn(
     heads: &mut [u16],
     put: usize,
 ) -> usize
-    requires block_laid { Block-laid work.old b }
+    requires block_laid { BlockLaid work.old b }
     requires j_lt_places { j < b.places }
-    requires arcs_fit { Arcs-fit tails.old heads.old put
-        (place-arcs (cell work.old b.tops) work.old b.first j (row-heads work.old b j)) }
-    ensures { Place-turned work.old work.new b j tails.old
+    requires arcs_fit { ArcsFit tails.old heads.old put
+        (place_arcs (cell work.old b.tops) work.old b.first j (row_heads work.old b j)) }
+    ensures { PlaceTurned work.old work.new b j tails.old
         heads.old tails.new heads.new put result }
 {
     unite(work, b, j);

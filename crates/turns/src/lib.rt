@@ -1,7 +1,7 @@
 // One source's turn in the pairing, in lent work memory: a search from the source marks what it reaches, and the
 // lowest of the sinks left that has a mark is taken out of them. A search takes no sink but the one that it pairs.
 ghost use Rattle.std.specs.Prelude.{ℕ, ◌+◌, ◌≤◌, ◌<◌, length, get_or};
-ghost use Rattle.turns.specs.Turn.{First-marked, Taken-out, Turnable, Turned};
+ghost use Rattle.turns.specs.Turn.{FirstMarked, TakenOut, Turnable, Turned};
 
 use arranged::Found;
 use memory::{fill, wide};
@@ -12,7 +12,7 @@ use workmap::{RowsAt, SearchAt};
 fn first_marked(work: &[u16], marks: usize, at: usize, count: usize) -> Found
     requires count_in_bounds { at + count ≤ length work.now }
     requires by_index { (k : ℕ) → k < count → marks + get_or work.now (at + k) 0 < length work.now }
-    ensures { First-marked work.now marks at count result }
+    ensures { FirstMarked work.now marks at count result }
 {
     let mut i = 0;
     while i < count {
@@ -28,7 +28,7 @@ fn first_marked(work: &[u16], marks: usize, at: usize, count: usize) -> Found
 // Takes the place j out of a list of `count` zones from `at` on: those behind it move down by one.
 fn take_out(work: &mut [u16], at: usize, count: usize, j: usize)
     requires { (j < count) × (at + count ≤ length work.old) }
-    ensures { Taken-out work.old work.new at count j }
+    ensures { TakenOut work.old work.new at count j }
 {
     let mut i = j + 1;
     while i < count {

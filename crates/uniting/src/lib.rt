@@ -4,7 +4,7 @@
 // The names of the components, and their rows of heads, which are places too, stand behind the table.
 ghost use Rattle.std.specs.Prelude.{◌≡◌, ◌+◌, ◌≤◌, ◌<◌};
 ghost use Rattle.memory.specs.Regions.{cell};
-ghost use Rattle.uniting.specs.Uniting.{row-heads, Block-laid, united};
+ghost use Rattle.uniting.specs.Uniting.{row_heads, BlockLaid, united};
 
 use bits::join;
 use memory::wide;
@@ -22,7 +22,7 @@ pub struct Block {
 
 // Where the heads of component j begin. Those of the component before it end there.
 pub fn heads_at(work: &[u16], b: Block, j: usize) -> usize
-    requires block_laid { Block-laid work.now b }
+    requires block_laid { BlockLaid work.now b }
     requires j_le_places { j ≤ b.places }
     ensures { result ≡ b.rows + cell work.now b.starts j }
 {
@@ -31,9 +31,9 @@ pub fn heads_at(work: &[u16], b: Block, j: usize) -> usize
 
 // U of component j: the rows of its heads go into row j.
 pub fn unite(work: &mut [u16], b: Block, j: usize)
-    requires block_laid { Block-laid work.old b }
+    requires block_laid { BlockLaid work.old b }
     requires j_lt_places { j < b.places }
-    ensures { work.new ≡ united work.old j (row-heads work.old b j) }
+    ensures { work.new ≡ united work.old j (row_heads work.old b j) }
 {
     let to = heads_at(work, b, j + 1);
     let mut left = to - heads_at(work, b, j);

@@ -1,6 +1,6 @@
 -- A call as one step, whatever it takes, gives and says: of a callee with its signature T and its clauses c.
 --   all_of, each         formulas as one, and as entries of the context
---   tokens, owned, lasts-of   a call's tokens, what is owned of its arguments, and its last values, as lists
+--   tokens, owned, lasts_of   a call's tokens, what is owned of its arguments, and its last values, as lists
 --   Source               what is owned of an argument is carried in the context, or made for nothing
 --   asks                 what the callee asks, of its tokens and its arguments
 --   hears                what stands after the call: its last values, its result, its tokens, and what it ensures
@@ -46,46 +46,46 @@ tokens zero κs qs = []
 tokens (suc n) κs qs = flft κs.0 qs.0 ∷ tokens n κs.1 qs.1
 
 -- what is said of each last value
-abbrev pub lasts-of : {n : ℕ} (κs : Lfts n) (ss : List (Slot n)) (ks : Kepts ss) (a : Denots (types_at ss κs)) →
+abbrev pub lasts_of : {n : ℕ} (κs : Lfts n) (ss : List (Slot n)) (ks : Kepts ss) (a : Denots (types_at ss κs)) →
     Fins κs ss ks a → List Fml
-lasts-of κs [] ks a ws = []
-lasts-of κs (s ∷ ss) ks a ws =
-    left ((s.row κs).exit ks.0) a.0 ws.0 ∷ lasts-of κs ss ks.1 a.1 ws.1
+lasts_of κs [] ks a ws = []
+lasts_of κs (s ∷ ss) ks a ws =
+    left ((s.row κs).exit ks.0) a.0 ws.0 ∷ lasts_of κs ss ks.1 a.1 ws.1
 
 -- what is owned of each argument
-abbrev pub owned-of : (Ts : List RattleType) → Denots Ts → Valss Ts → List Fml
-owned-of [] a vss = []
-owned-of (T ∷ Ts) a vss = T.own a.0 vss.0 ∷ owned-of Ts a.1 vss.1
+abbrev pub owned_of : (Ts : List RattleType) → Denots Ts → Valss Ts → List Fml
+owned_of [] a vss = []
+owned_of (T ∷ Ts) a vss = T.own a.0 vss.0 ∷ owned_of Ts a.1 vss.1
 
 -- what is had of each parameter at the end
-abbrev pub had-of : {n : ℕ} (κs : Lfts n) (ss : List (Slot n)) (ks : Kepts ss) → Stays ss ks →
+abbrev pub had_of : {n : ℕ} (κs : Lfts n) (ss : List (Slot n)) (ks : Kepts ss) → Stays ss ks →
     (a : Denots (types_at ss κs)) → Fins κs ss ks a → Valss (types_at ss κs) → List Fml
-had-of κs [] ks hs a ws vss = []
-had-of κs (s ∷ ss) ks hs a ws vss =
-    hs.0.has κs a.0 ws.0 vss.0 ∷ had-of κs ss ks.1 hs.1 a.1 ws.1 vss.1
+had_of κs [] ks hs a ws vss = []
+had_of κs (s ∷ ss) ks hs a ws vss =
+    hs.0.has κs a.0 ws.0 vss.0 ∷ had_of κs ss ks.1 hs.1 a.1 ws.1 vss.1
 
 -- as one, these are what the signature has
-owns-are : (Ts : List RattleType) (a : Denots Ts) (vss : Valss Ts) → all_of (owned-of Ts a vss) ≡ owns Ts a vss
-owns-are [] a vss = refl
-owns-are (T ∷ Ts) a vss = ap (fsep (T.own a.0 vss.0)) (owns-are Ts a.1 vss.1)
+owns_are : (Ts : List RattleType) (a : Denots Ts) (vss : Valss Ts) → all_of (owned_of Ts a vss) ≡ owns Ts a vss
+owns_are [] a vss = refl
+owns_are (T ∷ Ts) a vss = ap (fsep (T.own a.0 vss.0)) (owns_are Ts a.1 vss.1)
 
 lasts_are : {n : ℕ} (κs : Lfts n) (ss : List (Slot n)) (ks : Kepts ss) (a : Denots (types_at ss κs))
-    (ws : Fins κs ss ks a) → all_of (lasts-of κs ss ks a ws) ≡ lasts_of κs ss ks a ws
+    (ws : Fins κs ss ks a) → all_of (lasts_of κs ss ks a ws) ≡ lasts_of κs ss ks a ws
 lasts_are κs [] ks a ws = refl
 lasts_are κs (s ∷ ss) ks a ws =
     ap (fsep (left ((s.row κs).exit ks.0) a.0 ws.0)) (lasts_are κs ss ks.1 a.1 ws.1)
 
-had-is : {n : ℕ} (κs : Lfts n) (ss : List (Slot n)) (ks : Kepts ss) (hs : Stays ss ks) (a : Denots (types_at ss κs))
+had_is : {n : ℕ} (κs : Lfts n) (ss : List (Slot n)) (ks : Kepts ss) (hs : Stays ss ks) (a : Denots (types_at ss κs))
     (ws : Fins κs ss ks a) (vss : Valss (types_at ss κs)) →
-    all_of (had-of κs ss ks hs a ws vss) ≡ has_of κs ss ks hs a ws vss
-had-is κs [] ks hs a ws vss = refl
-had-is κs (s ∷ ss) ks hs a ws vss =
-    ap (fsep (hs.0.has κs a.0 ws.0 vss.0)) (had-is κs ss ks.1 hs.1 a.1 ws.1 vss.1)
+    all_of (had_of κs ss ks hs a ws vss) ≡ has_of κs ss ks hs a ws vss
+had_is κs [] ks hs a ws vss = refl
+had_is κs (s ∷ ss) ks hs a ws vss =
+    ap (fsep (hs.0.has κs a.0 ws.0 vss.0)) (had_is κs ss ks.1 hs.1 a.1 ws.1 vss.1)
 
-tokens-are : {M : Type 1} {𝓤 : Ura M} (𝓛 : Logic 𝓤) (n : ℕ) (κs : Lfts n) (qs : Shares n) →
+tokens_are : {M : Type 1} {𝓤 : Ura M} (𝓛 : Logic 𝓤) (n : ℕ) (κs : Lfts n) (qs : Shares n) →
     sem 𝓛 (all_of (tokens n κs qs)) ≡ toks 𝓛 n κs qs
-tokens-are 𝓛 zero κs qs = refl
-tokens-are {𝓤 = 𝓤} 𝓛 (suc n) κs qs = ap (sep 𝓤 (𝓛.A.lft κs.0 qs.0)) (tokens-are 𝓛 n κs.1 qs.1)
+tokens_are 𝓛 zero κs qs = refl
+tokens_are {𝓤 = 𝓤} 𝓛 (suc n) κs qs = ap (sep 𝓤 (𝓛.A.lft κs.0 qs.0)) (tokens_are 𝓛 n κs.1 qs.1)
 
 module _ {M : Type 1} {𝓤 : Ura M} (𝓛 : Logic 𝓤) where
   -- a formula is carried in the context, or made for nothing
@@ -150,11 +150,11 @@ module _ {M : Type 1} {𝓤 : Ura M} (𝓛 : Logic 𝓤) (T : Ended) (c : Clause
     Tokens = tokens T.signature.lifetimes y.0.0 y.0.1
 
     abbrev Owned : List Fml
-    Owned = owned-of (types_at T.signature.params y.0.0) y.0.3 y.0.4
+    Owned = owned_of (types_at T.signature.params y.0.0) y.0.3 y.0.4
 
     -- as the signature has them
-    alive-is : ent 𝓤 (sem 𝓛 (all_of Tokens)) (alive 𝓛 T.signature y.0.0 y.0.1)
-    alive-is = subst (ent 𝓤 _) (tokens-are 𝓛 T.signature.lifetimes y.0.0 y.0.1) (id⊢ 𝓤 _)
+    alive_is : ent 𝓤 (sem 𝓛 (all_of Tokens)) (alive 𝓛 T.signature y.0.0 y.0.1)
+    alive_is = subst (ent 𝓤 _) (tokens_are 𝓛 T.signature.lifetimes y.0.0 y.0.1) (id⊢ 𝓤 _)
 
     -- what it asks: tokens and arguments, and what it requires, which holds for nothing
     pub asks : {Γ : List (Item 𝓤)} {G : Goal 𝓤 H} (xs : Sources 𝓛 Owned) →
@@ -165,9 +165,9 @@ module _ {M : Type 1} {𝓤 : Ura M} (𝓛 : Logic 𝓤) (T : Ended) (c : Clause
         cut (each 𝓤 Tokens ++ each 𝓤 (carry 𝓛 Owned xs)) (raw (Callee.pre y) ∷ []) Γ
         (via 𝓤 _ (together 𝓛 Tokens Owned xs)
         (via 𝓤 P
-        (mono∗ 𝓤 alive-is
+        (mono∗ 𝓤 alive_is
         (subst (λ (F : Fml). ent 𝓤 (sem 𝓛 (all_of Owned)) (sem 𝓛 F))
-        (owns-are (types_at T.signature.params y.0.0) y.0.3 y.0.4) (id⊢ 𝓤 (sem 𝓛 (all_of Owned)))))
+        (owns_are (types_at T.signature.params y.0.0) y.0.3 y.0.4) (id⊢ 𝓤 (sem 𝓛 (all_of Owned)))))
         (via 𝓤 _ (emp∗ 𝓤 P)
         (via 𝓤 _ (mono_l 𝓤 P holds) (comm∗ 𝓤 ((c y.0.0 y.0.3).requires y.1) P)))))
 
@@ -177,7 +177,7 @@ module _ {M : Type 1} {𝓤 : Ura M} (𝓛 : Logic 𝓤) (T : Ended) (c : Clause
 
     -- what is said of last values
     abbrev Last : Lasts T y.0.0 y.0.3 → List Fml
-    Last ws = lasts-of y.0.0 T.signature.params T.kept y.0.3 ws
+    Last ws = lasts_of y.0.0 T.signature.params T.kept y.0.3 ws
 
     -- what it ensures
     abbrev Says : Res T.signature y.0.0 → Lasts T y.0.0 y.0.3 → SProp 𝓤
@@ -198,7 +198,7 @@ module _ {M : Type 1} {𝓤 : Ura M} (𝓛 : Logic 𝓤) (T : Ended) (c : Clause
           (via 𝓤 _
           (mono_r 𝓤 (sem 𝓛 (Result u r))
           (subst (λ (P : SProp 𝓤). ent 𝓤 P (⋆ 𝓛 (each 𝓤 Tokens)))
-          (tokens-are 𝓛 T.signature.lifetimes y.0.0 y.0.1) (scatter 𝓛 Tokens)))
+          (tokens_are 𝓛 T.signature.lifetimes y.0.0 y.0.1) (scatter 𝓛 Tokens)))
           (push 𝓛 (‵ (Result u r)) (each 𝓤 Tokens))))
           (++⊢ 𝓛 (each 𝓤 (Last ws)) (‵ (Result u r) ∷ each 𝓤 Tokens))
 
@@ -228,7 +228,7 @@ module _ {M : Type 1} {𝓤 : Ura M} (𝓛 : Logic 𝓤) (T : Ended) (c : Clause
         (ws : Lasts T y.0.0 y.0.3) where
       -- what is had of the parameters at the end, and the result
       abbrev Had : List Fml
-      Had = had-of y.0.0 T.signature.params T.kept hs y.0.3 ws y.0.4
+      Had = had_of y.0.0 T.signature.params T.kept hs y.0.3 ws y.0.4
 
       -- the end of the function's own walk
       pub ends : Fit T hs y.0.0 y.0.3 ws → ent 𝓤 (emp 𝓤) (Says r ws) →
@@ -243,9 +243,9 @@ module _ {M : Type 1} {𝓤 : Ura M} (𝓛 : Logic 𝓤) (T : Ended) (c : Clause
           (via 𝓤 (sep 𝓤 (sep 𝓤 Alive (sem 𝓛 Has)) (sem 𝓛 (Result u r)))
           (mono∗ 𝓤
           (via 𝓤 _ (together 𝓛 Tokens Had xs)
-          (mono∗ 𝓤 alive-is
+          (mono∗ 𝓤 alive_is
           (subst (λ (F : Fml). ent 𝓤 (sem 𝓛 (all_of Had)) (sem 𝓛 F))
-          (had-is y.0.0 T.signature.params T.kept hs y.0.3 ws y.0.4)
+          (had_is y.0.0 T.signature.params T.kept hs y.0.3 ws y.0.4)
           (id⊢ 𝓤 (sem 𝓛 (all_of Had))))))
           (via 𝓤 _ (gather 𝓛 (carry 𝓛 (Result u r ∷ []) (x, tt)))
           (via 𝓤 _ (gathered 𝓛 (Result u r ∷ []) (x, tt)) (fst∗ 𝓤 (sem 𝓛 (Result u r)) (emp 𝓤)))))

@@ -1,6 +1,6 @@
 -- A loop in MIR that counts i from 0 up to n.
 --   Inv t, Below t    t turns are left; fewer than t are left
---   counted-loop      a context for each i, a turn from each i below n to the next, and one that leaves the loop at n,
+--   counted_loop      a context for each i, a turn from each i below n to the next, and one that leaves the loop at n,
 --                     give the loop from 0
 -- By `loop_rule`, on the number of turns that are left. Assumes `Logic`.
 use mathlib.Core.Path.{◌≡◌, sym, subst, ◌∙◌}
@@ -58,7 +58,7 @@ module _ {M : Type 1} {𝓤 : Ura M} (𝓛 : Logic 𝓤) (𝓣 : Tables 𝓤 �
         (λ i. guard_e 𝓤 (i + t ≡ n) (At i) (λ e. turn_at t i e))
 
     -- the loop
-    pub counted-loop : ent 𝓤 (At 0) (Wp 𝓤 H 𝓣.C 𝓣.Λ En (loop turn) Left)
-    counted-loop =
+    pub counted_loop : ent 𝓤 (At 0) (Wp 𝓤 H 𝓣.C 𝓣.Λ En (loop turn) Left)
+    counted_loop =
         via 𝓤 (Inv n) (left n 0 (zero-add n))
         (loop_rule 𝓤 H 𝓛.laws 𝓣 ◌<◌ lt-wf_rel.wf En turn Left Inv turns n)

@@ -23,9 +23,9 @@ use types.Kit.{‵, raw, ◌⊛◌, mean, ◌$◌, ◌∵◌, !, qed, by, move, 
 use types.Kit.{fsplit, frame as frames, done}
 use denote.Steps.{nothing}
 use Rattle.walks.proofs.Calling.{all_of}
-use Rattle.walks.proofs.Locals.{Cell, Slot, lies, Free, get, set-cell, envs, All-free, free-both, Thing}
+use Rattle.walks.proofs.Locals.{Cell, Slot, lies, Free, get, set_cell, envs, AllFree, free_both, Thing}
 use Rattle.walks.proofs.Locals.{either, formulas, thing, without, frame, store, state, Stands, has, types_of}
-use Rattle.walks.proofs.Locals.{Places, filled-with, started, Typed-all, Typed-args, envs-filled, set-get}
+use Rattle.walks.proofs.Locals.{Places, filled_with, started, TypedAll, TypedArgs, envs_filled, set_get}
 use Rattle.walks.proofs.Locals.{room, holds, gone, stands}
 
 module _ {M : Type 1} {𝓤 : Ura M} (𝓛 : Logic 𝓤) where
@@ -41,7 +41,7 @@ module _ {M : Type 1} {𝓤 : Ura M} (𝓛 : Logic 𝓤) where
   -- a cell out of the locals
   cell_out : (k : ℕ) (ss : List Slot) →
       ent 𝓤 (sem 𝓛 (frame ss))
-      (sep 𝓤 (sem 𝓛 (lies (get k ss).0 (get k ss).1 (get k ss).2)) (sem 𝓛 (frame (set-cell k gone ss))))
+      (sep 𝓤 (sem 𝓛 (lies (get k ss).0 (get k ss).1 (get k ss).2)) (sem 𝓛 (frame (set_cell k gone ss))))
   unfolding frame
   cell_out k [] = emp∗ 𝓤 (emp 𝓤)
   cell_out zero (s ∷ ss) =
@@ -51,24 +51,24 @@ module _ {M : Type 1} {𝓤 : Ura M} (𝓛 : Logic 𝓤) where
       let S : Fml = fsep (lies s.0 s.1 s.2) (fdies s.0 s.1) in
       let L : Fml = lies (get k ss).0 (get k ss).1 (get k ss).2 in
       qed 𝓛 (‵ S ∷ ‵ (frame ss) ∷ []) ∵ move ! (1 ∷ []) $
-      use1 𝓛 (‵ L ⊛ ‵ (frame (set-cell k gone ss))) (cell_out k ss) $ split ! $ move ! (0 ∷ 2 ∷ 1 ∷ []) $ done !
+      use1 𝓛 (‵ L ⊛ ‵ (frame (set_cell k gone ss))) (cell_out k ss) $ split ! $ move ! (0 ∷ 2 ∷ 1 ∷ []) $ done !
 
   -- and into them
-  cell-back : (k : ℕ) (ss : List Slot) (c : Cell) →
+  cell_back : (k : ℕ) (ss : List Slot) (c : Cell) →
       ent 𝓤
-      (sep 𝓤 (sem 𝓛 (lies (get k ss).0 (get k ss).1 c)) (sem 𝓛 (frame (set-cell k gone ss))))
-      (sem 𝓛 (frame (set-cell k c ss)))
+      (sep 𝓤 (sem 𝓛 (lies (get k ss).0 (get k ss).1 c)) (sem 𝓛 (frame (set_cell k gone ss))))
+      (sem 𝓛 (frame (set_cell k c ss)))
   unfolding frame
-  cell-back k [] c = snd∗ 𝓤 (sem 𝓛 (lies (get k []).0 (get k []).1 c)) (emp 𝓤)
-  cell-back zero (s ∷ ss) c =
+  cell_back k [] c = snd∗ 𝓤 (sem 𝓛 (lies (get k []).0 (get k []).1 c)) (emp 𝓤)
+  cell_back zero (s ∷ ss) c =
       qed 𝓛 (‵ (lies s.0 s.1 c) ∷ ((‵ ftrue ⊛ ‵ (fdies s.0 s.1)) ⊛ ‵ (frame ss)) ∷ []) ∵ move ! (1 ∷ []) $
       split ! $ split ! $ drop ! $ move ! (2 ∷ 0 ∷ []) $ join ! $ done !
-  cell-back (suc k) (s ∷ ss) c =
+  cell_back (suc k) (s ∷ ss) c =
       let S : Fml = fsep (lies s.0 s.1 s.2) (fdies s.0 s.1) in
       let L : Fml = lies (get k ss).0 (get k ss).1 c in
-      via 𝓤 (sep 𝓤 (sem 𝓛 S) (sep 𝓤 (sem 𝓛 L) (sem 𝓛 (frame (set-cell k gone ss)))))
-      (qed 𝓛 (‵ L ∷ (‵ S ⊛ ‵ (frame (set-cell k gone ss))) ∷ []) ∵ move ! (1 ∷ []) $ split ! $ move ! (0 ∷ 2 ∷ 1 ∷ []) $
-      done !) (mono_r 𝓤 (sem 𝓛 S) (cell-back k ss c))
+      via 𝓤 (sep 𝓤 (sem 𝓛 S) (sep 𝓤 (sem 𝓛 L) (sem 𝓛 (frame (set_cell k gone ss)))))
+      (qed 𝓛 (‵ L ∷ (‵ S ⊛ ‵ (frame (set_cell k gone ss))) ∷ []) ∵ move ! (1 ∷ []) $ split ! $ move ! (0 ∷ 2 ∷ 1 ∷ []) $
+      done !) (mono_r 𝓤 (sem 𝓛 S) (cell_back k ss c))
 
   -- the entry is made of what it has
   shut : (ss : List Slot) (rs : List Thing) →
@@ -94,55 +94,55 @@ module _ {M : Type 1} {𝓤 : Ura M} (𝓛 : Logic 𝓤) where
   pub out : (k : ℕ) (ss : List Slot) (rs : List Thing) →
       ent 𝓤 (mean 𝓛 (has 𝓤 ss rs))
       (sep 𝓤 (sem 𝓛 (lies (get k ss).0 (get k ss).1 (get k ss).2))
-      (mean 𝓛 (has 𝓤 (set-cell k gone ss) rs)))
+      (mean 𝓛 (has 𝓤 (set_cell k gone ss) rs)))
   out k ss rs =
       qed 𝓛 (has 𝓤 ss rs ∷ []) ∵ use1 𝓛 (‵ (frame ss) ⊛ ‵ (store rs)) (opened ss rs) $ split ! $
       use1 𝓛
-      (‵ (lies (get k ss).0 (get k ss).1 (get k ss).2) ⊛ ‵ (frame (set-cell k gone ss))) (cell_out k ss) $
-      split ! $ frames ! $ by ! (shut (set-cell k gone ss) rs)
+      (‵ (lies (get k ss).0 (get k ss).1 (get k ss).2) ⊛ ‵ (frame (set_cell k gone ss))) (cell_out k ss) $
+      split ! $ frames ! $ by ! (shut (set_cell k gone ss) rs)
 
   -- and into it
   pub back : (k : ℕ) (ss : List Slot) (rs : List Thing) (c : Cell) →
       ent 𝓤
-      (sep 𝓤 (sem 𝓛 (lies (get k ss).0 (get k ss).1 c)) (mean 𝓛 (has 𝓤 (set-cell k gone ss) rs)))
-      (mean 𝓛 (has 𝓤 (set-cell k c ss) rs))
+      (sep 𝓤 (sem 𝓛 (lies (get k ss).0 (get k ss).1 c)) (mean 𝓛 (has 𝓤 (set_cell k gone ss) rs)))
+      (mean 𝓛 (has 𝓤 (set_cell k c ss) rs))
   back k ss rs c =
-      qed 𝓛 (‵ (lies (get k ss).0 (get k ss).1 c) ∷ has 𝓤 (set-cell k gone ss) rs ∷ []) ∵ move ! (1 ∷ []) $
-      use1 𝓛 (‵ (frame (set-cell k gone ss)) ⊛ ‵ (store rs)) (opened (set-cell k gone ss) rs) $ split ! $
-      move ! (2 ∷ 0 ∷ []) $ use2 𝓛 (‵ (frame (set-cell k c ss))) (cell-back k ss c) $ by ! (shut (set-cell k c ss) rs)
+      qed 𝓛 (‵ (lies (get k ss).0 (get k ss).1 c) ∷ has 𝓤 (set_cell k gone ss) rs ∷ []) ∵ move ! (1 ∷ []) $
+      use1 𝓛 (‵ (frame (set_cell k gone ss)) ⊛ ‵ (store rs)) (opened (set_cell k gone ss) rs) $ split ! $
+      move ! (2 ∷ 0 ∷ []) $ use2 𝓛 (‵ (frame (set_cell k c ss))) (cell_back k ss c) $ by ! (shut (set_cell k c ss) rs)
 
   module _ (k : ℕ) (ss : List Slot) (rs : List Thing) {τ : Ty} {b : ℕ} where
     -- a value out of the entry, where the local is known
     pub lent : {v : Val} → get k ss ≡ (τ, b, holds v) →
         ent 𝓤 (mean 𝓛 (has 𝓤 ss rs))
-        (sep 𝓤 (H.at full_share τ b zero v) (mean 𝓛 (has 𝓤 (set-cell k gone ss) rs)))
+        (sep 𝓤 (H.at full_share τ b zero v) (mean 𝓛 (has 𝓤 (set_cell k gone ss) rs)))
     lent e =
         subst
         (λ (s : Slot).
         ent 𝓤 (mean 𝓛 (has 𝓤 ss rs))
-        (sep 𝓤 (sem 𝓛 (lies s.0 s.1 s.2)) (mean 𝓛 (has 𝓤 (set-cell k gone ss) rs)))) e (out k ss rs)
+        (sep 𝓤 (sem 𝓛 (lies s.0 s.1 s.2)) (mean 𝓛 (has 𝓤 (set_cell k gone ss) rs)))) e (out k ss rs)
 
     -- and another value into it
     pub kept : {c : Cell} (v : Val) → get k ss ≡ (τ, b, c) →
-        ent 𝓤 (sep 𝓤 (H.at full_share τ b zero v) (mean 𝓛 (has 𝓤 (set-cell k gone ss) rs)))
-        (mean 𝓛 (has 𝓤 (set-cell k (holds v) ss) rs))
+        ent 𝓤 (sep 𝓤 (H.at full_share τ b zero v) (mean 𝓛 (has 𝓤 (set_cell k gone ss) rs)))
+        (mean 𝓛 (has 𝓤 (set_cell k (holds v) ss) rs))
     kept v e =
         subst
         (λ (s : Slot).
         ent 𝓤
-        (sep 𝓤 (sem 𝓛 (lies s.0 s.1 (holds v))) (mean 𝓛 (has 𝓤 (set-cell k gone ss) rs)))
-        (mean 𝓛 (has 𝓤 (set-cell k (holds v) ss) rs))) e (back k ss rs (holds v))
+        (sep 𝓤 (sem 𝓛 (lies s.0 s.1 (holds v))) (mean 𝓛 (has 𝓤 (set_cell k gone ss) rs)))
+        (mean 𝓛 (has 𝓤 (set_cell k (holds v) ss) rs))) e (back k ss rs (holds v))
 
     -- the same of a local whose cell is lent
     pub regained : (v : Val) → get k ss ≡ (τ, b, gone) →
         ent 𝓤 (sep 𝓤 (H.at full_share τ b zero v) (mean 𝓛 (has 𝓤 ss rs)))
-        (mean 𝓛 (has 𝓤 (set-cell k (holds v) ss) rs))
+        (mean 𝓛 (has 𝓤 (set_cell k (holds v) ss) rs))
     regained v e =
         subst
         (λ (xs : List Slot).
         ent 𝓤 (sep 𝓤 (H.at full_share τ b zero v) (mean 𝓛 (has 𝓤 xs rs)))
-        (mean 𝓛 (has 𝓤 (set-cell k (holds v) ss) rs)))
-        (subst (λ (s : Slot). set-cell k s.2 ss ≡ ss) e (set-get k ss)) (kept v e)
+        (mean 𝓛 (has 𝓤 (set_cell k (holds v) ss) rs)))
+        (subst (λ (s : Slot). set_cell k s.2 ss ≡ ss) e (set_get k ss)) (kept v e)
 
   -- a thing, or the ones behind it
   chosen : (t : Bool) (r : Thing) (rs rs' : List Thing) (F : Fml) →
@@ -156,10 +156,10 @@ module _ {M : Type 1} {𝓤 : Ura M} (𝓛 : Logic 𝓤) where
       move ! (0 ∷ 2 ∷ 1 ∷ []) $ done !
 
   -- a thing out of the others
-  thing-out : (n : ℕ) (rs : List Thing) →
+  thing_out : (n : ℕ) (rs : List Thing) →
       ent 𝓤 (sem 𝓛 (store rs)) (sep 𝓤 (sem 𝓛 (thing n rs)) (sem 𝓛 (store (without n rs))))
-  thing-out n [] = unfold store in (emp∗ 𝓤 (emp 𝓤))
-  thing-out n (r ∷ rs) = chosen (eqb n r.0) r rs (without n rs) (thing n rs) (thing-out n rs)
+  thing_out n [] = unfold store in (emp∗ 𝓤 (emp 𝓤))
+  thing_out n (r ∷ rs) = chosen (eqb n r.0) r rs (without n rs) (thing n rs) (thing_out n rs)
 
   -- a thing out of the entry
   pub found : (n : ℕ) (ss : List Slot) (rs : List Thing) →
@@ -167,7 +167,7 @@ module _ {M : Type 1} {𝓤 : Ura M} (𝓛 : Logic 𝓤) where
       (sep 𝓤 (sem 𝓛 (thing n rs)) (mean 𝓛 (has 𝓤 ss (without n rs))))
   found n ss rs =
       qed 𝓛 (has 𝓤 ss rs ∷ []) ∵ use1 𝓛 (‵ (frame ss) ⊛ ‵ (store rs)) (opened ss rs) $ split ! $ move ! (1 ∷ []) $
-      use1 𝓛 (‵ (thing n rs) ⊛ ‵ (store (without n rs))) (thing-out n rs) $ split ! $ frames ! $ move ! (1 ∷ 0 ∷ []) $
+      use1 𝓛 (‵ (thing n rs) ⊛ ‵ (store (without n rs))) (thing_out n rs) $ split ! $ frames ! $ move ! (1 ∷ 0 ∷ []) $
       by ! (shut ss (without n rs))
 
   -- and into it
@@ -181,8 +181,8 @@ module _ {M : Type 1} {𝓤 : Ura M} (𝓛 : Logic 𝓤) where
   -- the locals are made
   made_all : (ls : List Local) (P : SProp 𝓤) (Q : List (Ty × ℕ) → SProp 𝓤) →
       ((bs : Places (types_of ls)) →
-      ent 𝓤 (sep 𝓤 P (sem 𝓛 (frame (filled-with (types_of ls) bs []))))
-      (Q (envs (filled-with (types_of ls) bs [])))) →
+      ent 𝓤 (sep 𝓤 P (sem 𝓛 (frame (filled_with (types_of ls) bs []))))
+      (Q (envs (filled_with (types_of ls) bs [])))) →
       ent 𝓤 P (alloc 𝓤 H ls Q)
   unfolding frame
   made_all [] P Q h = via 𝓤 _ (emp∗ 𝓤 P) (via 𝓤 _ (comm∗ 𝓤 (emp 𝓤) P) (h tt))
@@ -192,21 +192,21 @@ module _ {M : Type 1} {𝓤 : Ura M} (𝓛 : Logic 𝓤) where
       all_i 𝓤 (λ (b : ℕ). wand 𝓤 (S b) (R b))
       (λ b. wand_i 𝓤 P (S b) (R b)
       (made_all ls (sep 𝓤 P (S b)) (λ E. Q ((τ, b) ∷ E)) (λ bs.
-      via 𝓤 _ (assoc∗ 𝓤 P (S b) (sem 𝓛 (frame (filled-with (types_of ls) bs [])))) (h (b, bs)))))
+      via 𝓤 _ (assoc∗ 𝓤 P (S b) (sem 𝓛 (frame (filled_with (types_of ls) bs [])))) (h (b, bs)))))
 
   -- the arguments are put into them
-  passed-all : (ls : List Ty) (bs : Places ls) (vs : List Val) (P Q : SProp 𝓤) → Typed-all ls vs →
-      ent 𝓤 (sep 𝓤 P (sem 𝓛 (frame (filled-with ls bs vs)))) Q →
-      ent 𝓤 (sep 𝓤 P (sem 𝓛 (frame (filled-with ls bs [])))) (pass 𝓤 H (envs (filled-with ls bs [])) vs Q)
+  passed_all : (ls : List Ty) (bs : Places ls) (vs : List Val) (P Q : SProp 𝓤) → TypedAll ls vs →
+      ent 𝓤 (sep 𝓤 P (sem 𝓛 (frame (filled_with ls bs vs)))) Q →
+      ent 𝓤 (sep 𝓤 P (sem 𝓛 (frame (filled_with ls bs [])))) (pass 𝓤 H (envs (filled_with ls bs [])) vs Q)
   unfolding frame
-  passed-all ls bs [] P Q ok h = h
-  passed-all [] bs (v ∷ vs) P Q ok h = absurd ok
-  passed-all (τ ∷ ls) bs (v ∷ vs) P Q ok h =
+  passed_all ls bs [] P Q ok h = h
+  passed_all [] bs (v ∷ vs) P Q ok h = absurd ok
+  passed_all (τ ∷ ls) bs (v ∷ vs) P Q ok h =
       let b : ℕ = bs.0 in
-      let E : SProp 𝓤 = sem 𝓛 (frame (filled-with ls bs.1 [])) in
+      let E : SProp 𝓤 = sem 𝓛 (frame (filled_with ls bs.1 [])) in
       let Y : SProp 𝓤 = H.at full_share τ b zero v in
       let D : SProp 𝓤 = H.dies τ b in
-      let R : SProp 𝓤 = pass 𝓤 H (envs (filled-with ls bs.1 [])) vs Q in
+      let R : SProp 𝓤 = pass 𝓤 H (envs (filled_with ls bs.1 [])) vs Q in
       via 𝓤 (sep 𝓤 (H.room τ b zero) (wand 𝓤 Y R))
       (via 𝓤 (sep 𝓤 (H.room τ b zero) (sep 𝓤 P (sep 𝓤 D E)))
       (qed 𝓛 (raw P ∷ ((raw (H.room τ b zero) ⊛ raw D) ⊛ raw E) ∷ []) ∵ move ! (1 ∷ []) $ split ! $ split ! $
@@ -218,8 +218,8 @@ module _ {M : Type 1} {𝓤 : Ura M} (𝓛 : Logic 𝓤) where
       move ! (2 ∷ 3 ∷ 0 ∷ []) $ by !
       (qed 𝓛 (raw P ∷ raw Y ∷ raw D ∷ raw E ∷ []) ∵ move ! (1 ∷ 2 ∷ []) $ join ! $ move ! (1 ∷ 0 ∷ []) $ join ! $
       done !))
-      (passed-all ls bs.1 vs (sep 𝓤 P (sep 𝓤 Y D)) Q ok.1
-      (via 𝓤 _ (assoc∗ 𝓤 P (sep 𝓤 Y D) (sem 𝓛 (frame (filled-with ls bs.1 vs)))) h))))))
+      (passed_all ls bs.1 vs (sep 𝓤 P (sep 𝓤 Y D)) Q ok.1
+      (via 𝓤 _ (assoc∗ 𝓤 P (sep 𝓤 Y D) (sem 𝓛 (frame (filled_with ls bs.1 vs)))) h))))))
       (guard_i 𝓤 (T (has_ty τ v) × WT v) (sep 𝓤 (H.room τ b zero) (wand 𝓤 Y R)) ok.0)
 
   -- a cell that can be written is room
@@ -229,15 +229,15 @@ module _ {M : Type 1} {𝓤 : Ura M} (𝓛 : Logic 𝓤) where
   as_room τ b gone ok = absurd ok
 
   -- the locals are freed
-  freed-all : (ss : List Slot) (P Q : SProp 𝓤) → All-free ss → ent 𝓤 P Q →
+  freed_all : (ss : List Slot) (P Q : SProp 𝓤) → AllFree ss → ent 𝓤 P Q →
       ent 𝓤 (sep 𝓤 (sem 𝓛 (frame ss)) P) (release 𝓤 H (envs ss) Q)
   unfolding frame
-  freed-all [] P Q ok h = via 𝓤 P (snd∗ 𝓤 (emp 𝓤) P) h
-  freed-all (s ∷ ss) P Q ok h =
+  freed_all [] P Q ok h = via 𝓤 P (snd∗ 𝓤 (emp 𝓤) P) h
+  freed_all (s ∷ ss) P Q ok h =
       qed 𝓛 (‵ (fsep (fsep (lies s.0 s.1 s.2) (fdies s.0 s.1)) (frame ss)) ∷ raw P ∷ []) ∵ fsplit ! $
       fsplit ! $
-      use1 𝓛 (‵ (froom s.0 s.1 zero)) (as_room s.0 s.1 s.2 (free-both s.2 (All-free ss) ok).0) $
-      join ! $ frames ! $ by ! (freed-all ss P Q (free-both s.2 (All-free ss) ok).1 h)
+      use1 𝓛 (‵ (froom s.0 s.1 zero)) (as_room s.0 s.1 s.2 (free_both s.2 (AllFree ss) ok).0) $
+      join ! $ frames ! $ by ! (freed_all ss P Q (free_both s.2 (AllFree ss) ok).1 h)
 
   -- what a function is handed, as things
   handed : (ts os : List Thing) →
@@ -254,7 +254,7 @@ module _ {M : Type 1} {𝓤 : Ura M} (𝓛 : Logic 𝓤) where
 
   -- the entry: from the tokens ts and what is owned of the arguments, os, the body runs
   pub entered : (ls : List Local) (vs : List Val) (ts os : List Thing) (Q : List (Ty × ℕ) → SProp 𝓤) →
-      Typed-args (types_of ls) vs →
+      TypedArgs (types_of ls) vs →
       ((bs : Places (types_of ls)) →
       ent 𝓤 (mean 𝓛 (has 𝓤 (started (types_of ls) bs vs) (ts ++ os))) (Q (envs (started (types_of ls) bs vs)))) →
       ent 𝓤 (sep 𝓤 (sem 𝓛 (all_of (formulas ts))) (sem 𝓛 (all_of (formulas os))))
@@ -266,18 +266,18 @@ module _ {M : Type 1} {𝓤 : Ura M} (𝓛 : Logic 𝓤) where
       via 𝓤 P (handed ts os)
       (made_all (local τ l ∷ ls) P (λ E. params 𝓤 H E vs (Q E)) (λ bs.
       let S : SProp 𝓤 = sep 𝓤 (H.room τ bs.0 zero) (H.dies τ bs.0) in
-      let R : SProp 𝓤 = sem 𝓛 (frame (filled-with (types_of ls) bs.1 vs)) in
-      via 𝓤 _ (assoc' 𝓤 P S (sem 𝓛 (frame (filled-with (types_of ls) bs.1 []))))
-      (passed-all (types_of ls) bs.1 vs (sep 𝓤 P S) _ ok
+      let R : SProp 𝓤 = sem 𝓛 (frame (filled_with (types_of ls) bs.1 vs)) in
+      via 𝓤 _ (assoc' 𝓤 P S (sem 𝓛 (frame (filled_with (types_of ls) bs.1 []))))
+      (passed_all (types_of ls) bs.1 vs (sep 𝓤 P S) _ ok
       (via 𝓤 (sep 𝓤 (sep 𝓤 S R) P)
       (qed 𝓛 ((raw P ⊛ raw S) ∷ raw R ∷ []) ∵ split ! $ move ! (1 ∷ 2 ∷ []) $ join ! $ done !)
       (via 𝓤 _ (shut (started (τ ∷ types_of ls) bs vs) (ts ++ os))
       (subst (λ (E : List (Ty × ℕ)). ent 𝓤 (mean 𝓛 (has 𝓤 (started (τ ∷ types_of ls) bs vs) (ts ++ os))) (Q E))
-      (sym (ap (λ (E : List (Ty × ℕ)). (τ, bs.0) ∷ E) (envs-filled (types_of ls) bs.1 vs))) (h bs)))))))
+      (sym (ap (λ (E : List (Ty × ℕ)). (τ, bs.0) ∷ E) (envs_filled (types_of ls) bs.1 vs))) (h bs)))))))
 
   -- the exit: the locals are freed, and what is behind them goes on
-  pub left : (ss : List Slot) (rs : List Thing) (P Q : SProp 𝓤) → All-free ss → ent 𝓤 P Q →
+  pub left : (ss : List Slot) (rs : List Thing) (P Q : SProp 𝓤) → AllFree ss → ent 𝓤 P Q →
       ent 𝓤 (sep 𝓤 (mean 𝓛 (has 𝓤 ss rs)) P) (release 𝓤 H (envs ss) Q)
   left ss rs P Q ok h =
       qed 𝓛 (has 𝓤 ss rs ∷ raw P ∷ []) ∵ use1 𝓛 (‵ (frame ss) ⊛ ‵ (store rs)) (opened ss rs) $ split ! $
-      move ! (0 ∷ 2 ∷ []) $ keep ! (0 ∷ 1 ∷ []) $ by ! (freed-all ss P Q ok h)
+      move ! (0 ∷ 2 ∷ []) $ keep ! (0 ∷ 1 ∷ []) $ by ! (freed_all ss P Q ok h)

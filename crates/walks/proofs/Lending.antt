@@ -1,6 +1,6 @@
 -- A `&κ mut [T]` that is lent for a lifetime κ' of a call, and comes back: as a `&κ' mut [T]`, and as a `&κ' [T]`.
 --   LentAgain, LentShared     what the holder keeps meanwhile: the lender's part at κ', and its own borrow at κ, open
---   opens_row, closes-row     opened for its holder, as the row of its elements, and closed at another list
+--   opens_row, closes_row     opened for its holder, as the row of its elements, and closed at another list
 --   lends_again, comes_back   lent as `&mut`: it comes back at the list that the callee leaves
 --   lends_shared, shared_back lent as `&`: it comes back as it was
 -- Each asks for the holder's token at κ, and gives it back at the end. Assumes `Logic`.
@@ -30,12 +30,12 @@ use denote.Index.{row, whole_out, whole_in, opens_slice, closes_slice}
 
 module _ (R : RattleType) (b o : ℕ) where
   -- the reference under a name, at a list
-  abbrev at-list : GName → List R.Denot → MutBor (List R.Denot)
-  at-list δ ys = record { ref_ptr = (b, o); ghost_name = δ; now = ys }
+  abbrev at_list : GName → List R.Denot → MutBor (List R.Denot)
+  at_list δ ys = record { ref_ptr = (b, o); ghost_name = δ; now = ys }
 
   -- its machine values
-  abbrev at-vals : List R.Denot → List Val
-  at-vals ys = slice_val (b, o) (length ys) ∷ []
+  abbrev at_vals : List R.Denot → List Val
+  at_vals ys = slice_val (b, o) (length ys) ∷ []
 
 module _ (R : RattleType) (κ : Lft) (q : Share) (γ : GName) (b o : ℕ) where
   -- the holder's own borrow, open
@@ -49,22 +49,22 @@ module _ (R : RattleType) (κ : Lft) (q : Share) (γ : GName) (b o : ℕ) where
     -- opened: the row of its elements, and what the holder keeps meanwhile
     open 𝓛 use {H, A}
 
-    pub opens_row : ent 𝓤 (sep 𝓤 (sem 𝓛 ((MutSlice ℓ κ R).own_val (at-list R b o γ ys) vs)) (A.lft κ q))
+    pub opens_row : ent 𝓤 (sep 𝓤 (sem 𝓛 ((MutSlice ℓ κ R).own_val (at_list R b o γ ys) vs)) (A.lft κ q))
         (H.⇛ (sep 𝓤 (sem 𝓛 (row R full_share ys b o)) (sem 𝓛 (Open ys))))
     opens_row =
-        qed 𝓛 (‵ ((MutSlice ℓ κ R).own_val (at-list R b o γ ys) vs) ∷ ‵ (flft κ q) ∷ []) ∵ updating ! $ fsplit ! $ drop ! $
+        qed 𝓛 (‵ ((MutSlice ℓ κ R).own_val (at_list R b o γ ys) vs) ∷ ‵ (flft κ q) ∷ []) ∵ updating ! $ fsplit ! $ drop ! $
         fsplit ! $ opens_slice ! tt R ys b o $ at_once ! $ frame ! $ move ! (1 ∷ 2 ∷ []) $ fjoin ! $
         move ! (1 ∷ 0 ∷ []) $ fjoin ! $ done !
 
     -- closed at a list of the same length
-    pub closes-row : (zs : List R.Denot) → vs ≡ at-vals R b o ys → Room R (length ys) → length zs ≡ length ys →
+    pub closes_row : (zs : List R.Denot) → vs ≡ at_vals R b o ys → Room R (length ys) → length zs ≡ length ys →
         ent 𝓤 (sep 𝓤 (sem 𝓛 (row R full_share zs b o)) (sem 𝓛 (Open ys)))
-        (H.⇛ (sep 𝓤 (sem 𝓛 ((MutSlice ℓ κ R).own_val (at-list R b o γ zs) vs)) (A.lft κ q)))
-    closes-row zs is room e =
+        (H.⇛ (sep 𝓤 (sem 𝓛 ((MutSlice ℓ κ R).own_val (at_list R b o γ zs) vs)) (A.lft κ q)))
+    closes_row zs is room e =
         qed 𝓛 (‵ (row R full_share zs b o) ∷ ‵ (Open ys) ∷ []) ∵ updating ! $ move ! (1 ∷ []) $ fsplit ! $
         move ! (1 ∷ []) $ fsplit ! $ move ! (3 ∷ 2 ∷ 0 ∷ 1 ∷ []) $ closes_slice ! tt R ys zs e b o $ at_once ! $
         fjoin ! $
-        pure_i ! (mut_slice_at R (at-list R b o γ zs) vs) (tt, (tt, tt))
+        pure_i ! (mut_slice_at R (at_list R b o γ zs) vs) (tt, (tt, tt))
         (is ∙ ap (λ (m : ℕ). slice_val (b, o) m ∷ []) (sym e), subst (Room R) (sym e) room) $ fjoin ! $ done !
 
 module _ (R : RattleType) (κ κ' : Lft) (q : Share) (γ : GName) (b o : ℕ) where
@@ -82,29 +82,29 @@ module _ (R : RattleType) (κ κ' : Lft) (q : Share) (γ : GName) (b o : ℕ) wh
     open 𝓛 use {H, A}
 
     abbrev vals : List Val
-    vals = at-vals R b o ys
+    vals = at_vals R b o ys
 
     -- lent again as `&mut`
-    pub lends_again : ent 𝓤 (sep 𝓤 (sem 𝓛 ((MutSlice ℓ κ R).own_val (at-list R b o γ ys) vals)) (A.lft κ q))
+    pub lends_again : ent 𝓤 (sep 𝓤 (sem 𝓛 ((MutSlice ℓ κ R).own_val (at_list R b o γ ys) vals)) (A.lft κ q))
         (H.⇛
         (ex 𝓤
         (λ (γ₁ : GName).
-        sep 𝓤 (sem 𝓛 ((MutSlice ℓ' κ' R).own_val (at-list R b o γ₁ ys) vals)) (sem 𝓛 (LentAgain γ₁ ys)))))
+        sep 𝓤 (sem 𝓛 ((MutSlice ℓ' κ' R).own_val (at_list R b o γ₁ ys) vals)) (sem 𝓛 (LentAgain γ₁ ys)))))
     lends_again =
-        qed 𝓛 (‵ ((MutSlice ℓ κ R).own_val (at-list R b o γ ys) vals) ∷ ‵ (flft κ q) ∷ []) ∵ updating ! $ fsplit ! $
-        pure_l ! (mut_slice_at R (at-list R b o γ ys) vals) (λ p. fsplit ! $ opens_slice ! tt R ys b o $
+        qed 𝓛 (‵ ((MutSlice ℓ κ R).own_val (at_list R b o γ ys) vals) ∷ ‵ (flft κ q) ∷ []) ∵ updating ! $ fsplit ! $
+        pure_l ! (mut_slice_at R (at_list R b o γ ys) vals) (λ p. fsplit ! $ opens_slice ! tt R ys b o $
         use1 𝓛 (‵ (cells (mem R) ys b o)) (whole_in 𝓛 R ys b o) $
         use1 𝓛
         (later
         (some
         (λ (γ₁ : GName).
-        ‵ ((MutSlice ℓ' κ' R).own_val (at-list R b o γ₁ ys) vals) ⊛ ‵ (flent κ' (Held R (length ys) b o γ₁)))))
+        ‵ ((MutSlice ℓ' κ' R).own_val (at_list R b o γ₁ ys) vals) ⊛ ‵ (flent κ' (Held R (length ys) b o γ₁)))))
         (lends_slice 𝓛 R ℓ' κ' ys b o p.1) $ await ! tt $ pick ! (λ γ₁. split ! $
         -- [the new slice; the lender's part at κ'; the open borrow at κ; obs γ; auth γ]
         at_once ! $
         show !
         (λ (γ' : GName).
-        sep 𝓤 (sem 𝓛 ((MutSlice ℓ' κ' R).own_val (at-list R b o γ' ys) vals)) (sem 𝓛 (LentAgain γ' ys))) γ₁ $
+        sep 𝓤 (sem 𝓛 ((MutSlice ℓ' κ' R).own_val (at_list R b o γ' ys) vals)) (sem 𝓛 (LentAgain γ' ys))) γ₁ $
         frame ! $ move ! (2 ∷ 3 ∷ []) $ fjoin ! $ move ! (2 ∷ 0 ∷ []) $ fjoin ! $ move ! (1 ∷ 0 ∷ []) $ fjoin ! $
         done !))
 
@@ -112,47 +112,47 @@ module _ (R : RattleType) (κ κ' : Lft) (q : Share) (γ : GName) (b o : ℕ) wh
     pub comes_back : (γ₁ : GName) (zs : List R.Denot) → Room R (length ys) → length zs ≡ length ys →
         ent 𝓤
         (sep 𝓤 (A.dead κ') (sep 𝓤 (sem 𝓛 (LentAgain γ₁ ys)) (sem 𝓛 (finally R γ₁ zs))))
-        (H.⇛ (sep 𝓤 (sem 𝓛 ((MutSlice ℓ κ R).own_val (at-list R b o γ zs) vals)) (A.lft κ q)))
+        (H.⇛ (sep 𝓤 (sem 𝓛 ((MutSlice ℓ κ R).own_val (at_list R b o γ zs) vals)) (A.lft κ q)))
     comes_back γ₁ zs room e =
         qed 𝓛 (‵ (fdead κ') ∷ ‵ (LentAgain γ₁ ys) ∷ ‵ (finally R γ₁ zs) ∷ []) ∵ updating ! $ move ! (1 ∷ []) $
         fsplit ! $ move ! (2 ∷ 0 ∷ 3 ∷ []) $
         use3 𝓛 (later (‵ ((Arr (mem R) (length ys)).own_at zs b o)))
         (slice_back 𝓛 R κ' γ₁ zs (length ys) b o) $ await ! tt $ fsplit ! $ drop ! $
         use1 𝓛 (‵ (row R full_share zs b o)) (whole_out 𝓛 R zs b o) $
-        by ! (closes-row R κ q γ b o 𝓛 ℓ ys vals zs refl room e)
+        by ! (closes_row R κ q γ b o 𝓛 ℓ ys vals zs refl room e)
 
     -- lent as `&`, at any machine values
     pub lends_shared : (vs : List Val) →
-        ent 𝓤 (sep 𝓤 (sem 𝓛 ((MutSlice ℓ κ R).own_val (at-list R b o γ ys) vs)) (A.lft κ q))
+        ent 𝓤 (sep 𝓤 (sem 𝓛 ((MutSlice ℓ κ R).own_val (at_list R b o γ ys) vs)) (A.lft κ q))
         (H.⇛
         (ex 𝓤
         (λ (γ₁ : GName).
-        sep 𝓤 (sem 𝓛 ((ShrSlice ℓ' κ' R).own_val (at-list R b o γ₁ ys) vs)) (sem 𝓛 (LentShared ys)))))
+        sep 𝓤 (sem 𝓛 ((ShrSlice ℓ' κ' R).own_val (at_list R b o γ₁ ys) vs)) (sem 𝓛 (LentShared ys)))))
     lends_shared vs =
-        qed 𝓛 (‵ ((MutSlice ℓ κ R).own_val (at-list R b o γ ys) vs) ∷ ‵ (flft κ q) ∷ []) ∵ updating ! $ fsplit ! $
-        pure_l ! (shr_slice_at R (at-list R b o γ ys) vs) (λ p. fsplit ! $ opens_slice ! tt R ys b o $
+        qed 𝓛 (‵ ((MutSlice ℓ κ R).own_val (at_list R b o γ ys) vs) ∷ ‵ (flft κ q) ∷ []) ∵ updating ! $ fsplit ! $
+        pure_l ! (shr_slice_at R (at_list R b o γ ys) vs) (λ p. fsplit ! $ opens_slice ! tt R ys b o $
         feq_i ! ℕ (length ys) (length ys) refl $ fjoin ! $
         use1 𝓛
         (later
         (some
         (λ (γ₁ : GName).
-        ‵ ((ShrSlice ℓ' κ' R).own_val (at-list R b o γ₁ ys) vals)
+        ‵ ((ShrSlice ℓ' κ' R).own_val (at_list R b o γ₁ ys) vals)
         ⊛ ‵ (flent κ' ((arr_parts (shares R) (length ys)).part full_share ys b o)))))
         (lends_shr_slice 𝓛 R ℓ' κ' full_share ys b o p.1) $ await ! tt $ pick ! (λ γ₁. split ! $
-        rewrite ! 0 (λ (us : List Val). ‵ ((ShrSlice ℓ' κ' R).own_val (at-list R b o γ₁ ys) us)) (sym p.0) refl $
+        rewrite ! 0 (λ (us : List Val). ‵ ((ShrSlice ℓ' κ' R).own_val (at_list R b o γ₁ ys) us)) (sym p.0) refl $
         -- [the new slice; the lender's part at κ'; the open borrow at κ; obs γ; auth γ]
         at_once ! $
         show !
         (λ (γ' : GName).
-        sep 𝓤 (sem 𝓛 ((ShrSlice ℓ' κ' R).own_val (at-list R b o γ' ys) vs)) (sem 𝓛 (LentShared ys))) γ₁ $
+        sep 𝓤 (sem 𝓛 ((ShrSlice ℓ' κ' R).own_val (at_list R b o γ' ys) vs)) (sem 𝓛 (LentShared ys))) γ₁ $
         frame ! $ move ! (2 ∷ 3 ∷ []) $ fjoin ! $ move ! (2 ∷ 0 ∷ []) $ fjoin ! $ move ! (1 ∷ 0 ∷ []) $ fjoin ! $
         done !))
 
     -- it comes back as it was
     pub shared_back : (vs : List Val) → vs ≡ vals → Room R (length ys) →
         ent 𝓤 (sep 𝓤 (A.dead κ') (sem 𝓛 (LentShared ys)))
-        (H.⇛ (sep 𝓤 (sem 𝓛 ((MutSlice ℓ κ R).own_val (at-list R b o γ ys) vs)) (A.lft κ q)))
+        (H.⇛ (sep 𝓤 (sem 𝓛 ((MutSlice ℓ κ R).own_val (at_list R b o γ ys) vs)) (A.lft κ q)))
     shared_back vs e room =
         qed 𝓛 (‵ (fdead κ') ∷ ‵ (LentShared ys) ∷ []) ∵ updating ! $ move ! (1 ∷ []) $ fsplit ! $
         move ! (2 ∷ 0 ∷ []) $ lent_back ! tt $ fsplit ! $ drop ! $
-        by ! (closes-row R κ q γ b o 𝓛 ℓ ys vs ys e room refl)
+        by ! (closes_row R κ q γ b o 𝓛 ℓ ys vs ys e room refl)

@@ -1,6 +1,6 @@
 -- A local array that is lent as a `&mut [T]` for a lifetime of a call, and comes back; and an array of structs as a
 -- field.
---   lends-array     the array's cell, with what the array owns, gives a `&κ mut [T]` on it, and the lender's part
+--   lends_array     the array's cell, with what the array owns, gives a `&κ mut [T]` on it, and the lender's part
 --   array_back      once κ is over, the lender's part gives the cell again, at the list that the callee leaves
 --   field_is        an array of structs is what a field of that type asks for
 -- Assumes `Logic`.
@@ -44,12 +44,12 @@ module _ {M : Type 1} {𝓤 : Ura M} (𝓛 : Logic 𝓤) (R : RattleType) (n b :
   cell v = fat full_share τ b 0 v
 
   -- it is lent
-  pub lends-array : Single R.mir → (ℓ : Lifetime) (κ : Lft) (xs : List R.Denot) (v : Val) →
+  pub lends_array : Single R.mir → (ℓ : Lifetime) (κ : Lft) (xs : List R.Denot) (v : Val) →
       Room R (length xs) →
       ent 𝓤 (sep 𝓤 (sem 𝓛 (cell v)) (sem 𝓛 ((Array R n).own_val xs (v ∷ []))))
       (H.⇛ (ex 𝓤 (Lent 𝓛 R ℓ κ xs b 0)))
   unfolding part_of
-  lends-array one ℓ κ xs v room =
+  lends_array one ℓ κ xs v room =
       qed 𝓛 (‵ (cell v) ∷ ‵ ((Array R n).own_val xs (v ∷ [])) ∷ []) ∵
       use1 𝓛 (‵ (cell_at full_share (τ ∷ []) (v ∷ []) b 0)) (𝓛.laws.at_raw full_share τ b 0 v) $ fjoin ! $
       fpack ! (List Val) (λ vs. fsep (cell_at full_share (τ ∷ []) vs b 0) ((Array R n).own_val xs vs)) (v ∷ []) $
@@ -77,16 +77,16 @@ module _ {M : Type 1} {𝓤 : Ura M} (𝓛 : Logic 𝓤) (R : RattleType) (n b :
       done !))
 
 -- each struct of a list is what the field asks for
-each-is : (T : Declared) (xs : List T.D) (us : List Val) →
+each_is : (T : Declared) (xs : List T.D) (us : List Val) →
     shadow (each T.D (D.row T).own xs us) →
     shadow (each (field T).row.Denot (field T).row.own_val (map T.to xs) us)
-each-is T [] [] s = s
-each-is T [] (u ∷ us) s = s
-each-is T (x ∷ xs) [] s = s
-each-is T (x ∷ xs) (u ∷ us) s = (s.0, each-is T xs us s.1)
+each_is T [] [] s = s
+each_is T [] (u ∷ us) s = s
+each_is T (x ∷ xs) [] s = s
+each_is T (x ∷ xs) (u ∷ us) s = (s.0, each_is T xs us s.1)
 
 -- and so is an array of them
 pub field_is : (T : Declared) (n : ℕ) (xs : List T.D) (vs : List Val) → Is (Array (D.row T) n) xs vs →
     Is (Array (field T).row n) (map T.to xs) vs
 field_is T n xs vs is =
-    (is.0, ((is.1.0.0, length-map xs T.to ∙ is.1.0.1), each-is T xs is.0 is.1.1))
+    (is.0, ((is.1.0.0, length-map xs T.to ∙ is.1.0.1), each_is T xs is.0 is.1.1))

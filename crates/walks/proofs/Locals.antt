@@ -1,7 +1,7 @@
 -- All that a function has while it is walked, as one entry of the context: its locals, by their number in the code, and
 -- what else it owns, by names that the proof gives.
 --   Cell, Slot            what is in a local; a local with its type and its place
---   get, set-cell, envs   a local's slot, another content for it, and the locals as the code's environment
+--   get, set_cell, envs   a local's slot, another content for it, and the locals as the code's environment
 --   Thing, thing, without what is kept under a name, and all but that
 --   has ss rs             the locals ss and the things rs, as one entry
 --   started               the locals at entry, with the arguments in them
@@ -47,10 +47,10 @@ get zero (s ∷ ss) = s
 get (suc k) (s ∷ ss) = get k ss
 
 -- the locals with another content of one
-abbrev pub set-cell : ℕ → Cell → List Slot → List Slot
-set-cell k c [] = []
-set-cell zero c (s ∷ ss) = (s.0, s.1, c) ∷ ss
-set-cell (suc k) c (s ∷ ss) = s ∷ set-cell k c ss
+abbrev pub set_cell : ℕ → Cell → List Slot → List Slot
+set_cell k c [] = []
+set_cell zero c (s ∷ ss) = (s.0, s.1, c) ∷ ss
+set_cell (suc k) c (s ∷ ss) = s ∷ set_cell k c ss
 
 -- the locals as the code's environment
 abbrev pub envs : List Slot → List (Ty × ℕ)
@@ -58,21 +58,21 @@ envs [] = []
 envs (s ∷ ss) = (s.0, s.1) ∷ envs ss
 
 -- a cell can be written, and X
-abbrev pub Free-and : Cell → Type 0 → Type 0
-Free-and room X = X
-Free-and (holds v) X = X
-Free-and gone X = ⊥
+abbrev pub FreeAnd : Cell → Type 0 → Type 0
+FreeAnd room X = X
+FreeAnd (holds v) X = X
+FreeAnd gone X = ⊥
 
 -- every cell can be written
-abbrev pub All-free : List Slot → Type 0
-All-free [] = Unit {0}
-All-free (s ∷ ss) = Free-and s.2 (All-free ss)
+abbrev pub AllFree : List Slot → Type 0
+AllFree [] = Unit {0}
+AllFree (s ∷ ss) = FreeAnd s.2 (AllFree ss)
 
 -- the two facts
-pub free-both : (c : Cell) (X : Type 0) → Free-and c X → Free c × X
-free-both room X x = (tt, x)
-free-both (holds v) X x = (tt, x)
-free-both gone X x = absurd x
+pub free_both : (c : Cell) (X : Type 0) → FreeAnd c X → Free c × X
+free_both room X x = (tt, x)
+free_both (holds v) X x = (tt, x)
+free_both gone X x = absurd x
 
 -- something owned, under a name
 abbrev pub Thing : Type 1
@@ -150,36 +150,36 @@ Places [] = Unit {0}
 Places (τ ∷ τs) = ℕ × Places τs
 
 -- the locals at entry, with the arguments vs in the first of them
-abbrev pub filled-with : (τs : List Ty) → Places τs → List Val → List Slot
-filled-with [] bs vs = []
-filled-with (τ ∷ τs) bs [] = (τ, bs.0, room) ∷ filled-with τs bs.1 []
-filled-with (τ ∷ τs) bs (v ∷ vs) = (τ, bs.0, holds v) ∷ filled-with τs bs.1 vs
+abbrev pub filled_with : (τs : List Ty) → Places τs → List Val → List Slot
+filled_with [] bs vs = []
+filled_with (τ ∷ τs) bs [] = (τ, bs.0, room) ∷ filled_with τs bs.1 []
+filled_with (τ ∷ τs) bs (v ∷ vs) = (τ, bs.0, holds v) ∷ filled_with τs bs.1 vs
 
 -- the locals at entry, the first of which is for the result
 abbrev pub started : (τs : List Ty) → Places τs → List Val → List Slot
 started [] bs vs = []
-started (τ ∷ τs) bs vs = (τ, bs.0, room) ∷ filled-with τs bs.1 vs
+started (τ ∷ τs) bs vs = (τ, bs.0, room) ∷ filled_with τs bs.1 vs
 
 -- each argument is of its local's type
-abbrev pub Typed-all : List Ty → List Val → Type 0
-Typed-all τs [] = Unit {0}
-Typed-all [] (v ∷ vs) = ⊥
-Typed-all (τ ∷ τs) (v ∷ vs) = (T (has_ty τ v) × WT v) × Typed-all τs vs
+abbrev pub TypedAll : List Ty → List Val → Type 0
+TypedAll τs [] = Unit {0}
+TypedAll [] (v ∷ vs) = ⊥
+TypedAll (τ ∷ τs) (v ∷ vs) = (T (has_ty τ v) × WT v) × TypedAll τs vs
 
 -- and there is a local for the result
-abbrev pub Typed-args : List Ty → List Val → Type 0
-Typed-args [] vs = ⊥
-Typed-args (τ ∷ τs) vs = Typed-all τs vs
+abbrev pub TypedArgs : List Ty → List Val → Type 0
+TypedArgs [] vs = ⊥
+TypedArgs (τ ∷ τs) vs = TypedAll τs vs
 
 -- arguments change no place
-pub envs-filled : (τs : List Ty) (bs : Places τs) (vs : List Val) →
-    envs (filled-with τs bs []) ≡ envs (filled-with τs bs vs)
-envs-filled [] bs vs = refl
-envs-filled (τ ∷ τs) bs [] = refl
-envs-filled (τ ∷ τs) bs (v ∷ vs) = ap (λ (E : List (Ty × ℕ)). (τ, bs.0) ∷ E) (envs-filled τs bs.1 vs)
+pub envs_filled : (τs : List Ty) (bs : Places τs) (vs : List Val) →
+    envs (filled_with τs bs []) ≡ envs (filled_with τs bs vs)
+envs_filled [] bs vs = refl
+envs_filled (τ ∷ τs) bs [] = refl
+envs_filled (τ ∷ τs) bs (v ∷ vs) = ap (λ (E : List (Ty × ℕ)). (τ, bs.0) ∷ E) (envs_filled τs bs.1 vs)
 
 -- a local put back as it was is as it was
-pub set-get : (k : ℕ) (ss : List Slot) → set-cell k (get k ss).2 ss ≡ ss
-set-get k [] = refl
-set-get zero (s ∷ ss) = refl
-set-get (suc k) (s ∷ ss) = ap (λ (xs : List Slot). s ∷ xs) (set-get k ss)
+pub set_get : (k : ℕ) (ss : List Slot) → set_cell k (get k ss).2 ss ≡ ss
+set_get k [] = refl
+set_get zero (s ∷ ss) = refl
+set_get (suc k) (s ∷ ss) = ap (λ (xs : List Slot). s ∷ xs) (set_get k ss)

@@ -1,9 +1,9 @@
 -- Steps of a walk through a loop that counts, over the state of `Locals`, and of a store into a lent slice.
---   same-value        an expression at an equal value;  start_of  where a slice lies, as an operand
---   lets-last         a local is assigned, and nothing follows
+--   same_value        an expression at an equal value;  start_of  where a slice lies, as an operand
+--   lets_last         a local is assigned, and nothing follows
 --   stores_at         an element of a row, which is kept under a name, is stored through a pointer that a local holds
 --   tidies            locals are emptied, and of the things just these are kept, in this order
---   while-below       `while i < n`, with a state for each i: a turn from each i below n to the next, and then the rest
+--   while_below       `while i < n`, with a state for each i: a turn from each i below n to the next, and then the rest
 --   scaled            where an element of a slice lies fits a word
 -- A loop's state must look alike at each i, so a turn ends in `tidies`. Assumes `Logic`.
 use mathlib.Core.Path.{◌≡◌, refl, sym, ap, subst}
@@ -32,22 +32,22 @@ use denote.RattleType.{RattleType}
 use denote.Memory.{part_of, part_at, cell_raw, mem, shares, raw_all}
 use denote.Slice.{slice_ty, slice_val, Room}
 use denote.Index.{row, others, place as place_of, takes as takes_out, puts}
-use Rattle.walks.proofs.CountedLoop.{counted-loop}
-use Rattle.walks.proofs.Locals.{Cell, room, holds, gone, Slot, lies, Free, Free-and, free-both, get, set-cell}
+use Rattle.walks.proofs.CountedLoop.{counted_loop}
+use Rattle.walks.proofs.Locals.{Cell, room, holds, gone, Slot, lies, Free, FreeAnd, free_both, get, set_cell}
 use Rattle.walks.proofs.Locals.{envs, Thing, thing, without, naming, has}
 use Rattle.walks.proofs.Keeping.{out, back, found, stored, as_room, alone}
-use Rattle.walks.proofs.Stepping.{last_of, with-last, things, Here, Last, apart, spot, in-local, within, reads}
+use Rattle.walks.proofs.Stepping.{last_of, with_last, things, Here, Last, apart, spot, in_local, within, reads}
 use Rattle.walks.proofs.Stepping.{writes, var, lets, brings}
 
 -- a test that holds is true
-test-holds : (t : Bool) → T t → t ≡ true
-test-holds true _ = refl
-test-holds false a = absurd a
+test_holds : (t : Bool) → T t → t ≡ true
+test_holds true _ = refl
+test_holds false a = absurd a
 
 -- a test that does not hold is false
-test-fails : (t : Bool) → (T t → ⊥) → t ≡ false
-test-fails true f = absurd (f tt)
-test-fails false _ = refl
+test_fails : (t : Bool) → (T t → ⊥) → t ≡ false
+test_fails true f = absurd (f tt)
+test_fails false _ = refl
 
 -- a number at most one below 2^63 fits a word
 half : (a c : ℕ) → a ≤ c → c < 2 ^ 63 → a < 2 ^ 64
@@ -60,12 +60,12 @@ scaled R i n h fits = half (i * (mem R).size) (n * (mem R).size) (mul-le-mul_rig
 -- the locals with some of them emptied
 abbrev pub emptied : List ℕ → List Slot → List Slot
 emptied [] ss = ss
-emptied (k ∷ ks) ss = emptied ks (set-cell k room ss)
+emptied (k ∷ ks) ss = emptied ks (set_cell k room ss)
 
 -- these can be emptied
 abbrev pub Empties : List ℕ → List Slot → Type 0
 Empties [] ss = Unit {0}
-Empties (k ∷ ks) ss = Free-and (get k ss).2 (Empties ks (set-cell k room ss))
+Empties (k ∷ ks) ss = FreeAnd (get k ss).2 (Empties ks (set_cell k room ss))
 
 module _ {M : Type 1} {𝓤 : Ura M} (𝓛 : Logic 𝓤) where
   -- locals are emptied
@@ -75,23 +75,23 @@ module _ {M : Type 1} {𝓤 : Ura M} (𝓛 : Logic 𝓤) where
       ent 𝓤 (mean 𝓛 (has 𝓤 ss rs)) (mean 𝓛 (has 𝓤 (emptied ks ss) rs))
   empties [] ss rs ok = id⊢ 𝓤 _
   empties (k ∷ ks) ss rs ok =
-      let ss' : List Slot = set-cell k room ss in
-      let both : Free (get k ss).2 × Empties ks ss' = free-both (get k ss).2 (Empties ks ss') ok in
+      let ss' : List Slot = set_cell k room ss in
+      let both : Free (get k ss).2 × Empties ks ss' = free_both (get k ss).2 (Empties ks ss') ok in
       qed 𝓛 (has 𝓤 ss rs ∷ []) ∵
-      use1 𝓛 (‵ (lies (get k ss).0 (get k ss).1 (get k ss).2) ⊛ has 𝓤 (set-cell k gone ss) rs)
+      use1 𝓛 (‵ (lies (get k ss).0 (get k ss).1 (get k ss).2) ⊛ has 𝓤 (set_cell k gone ss) rs)
       (out 𝓛 k ss rs) $ split ! $
       use1 𝓛 (‵ (froom (get k ss).0 (get k ss).1 zero))
       (as_room 𝓛 (get k ss).0 (get k ss).1 (get k ss).2 both.0) $
       use2 𝓛 (has 𝓤 ss' rs) (back 𝓛 k ss rs room) $ by ! (empties ks ss' rs both.1)
 
   -- just these things are kept
-  keeps-only : (ns : List ℕ) (ss : List Slot) (rs : List Thing) →
+  keeps_only : (ns : List ℕ) (ss : List Slot) (rs : List Thing) →
       ent 𝓤 (mean 𝓛 (has 𝓤 ss rs)) (mean 𝓛 (has 𝓤 ss (naming ns (things ns rs))))
-  keeps-only [] ss rs = alone 𝓛 ss rs
-  keeps-only (n ∷ ns) ss rs =
+  keeps_only [] ss rs = alone 𝓛 ss rs
+  keeps_only (n ∷ ns) ss rs =
       let rs' : List Thing = naming ns (things ns (without n rs)) in
       qed 𝓛 (has 𝓤 ss rs ∷ []) ∵ use1 𝓛 (‵ (thing n rs) ⊛ has 𝓤 ss (without n rs)) (found 𝓛 n ss rs) $
-      split ! $ move ! (1 ∷ []) $ use1 𝓛 (has 𝓤 ss rs') (keeps-only ns ss (without n rs)) $ move ! (1 ∷ 0 ∷ []) $
+      split ! $ move ! (1 ∷ []) $ use1 𝓛 (has 𝓤 ss rs') (keeps_only ns ss (without n rs)) $ move ! (1 ∷ 0 ∷ []) $
       use2 𝓛 (has 𝓤 ss ((n, thing n rs) ∷ rs')) (stored 𝓛 n (thing n rs) ss rs') $ done !
 
   module _ (R : RattleType) (τ : Ty) (one : R.mir ≡ τ ∷ []) (b o : ℕ) where
@@ -112,10 +112,10 @@ module _ {M : Type 1} {𝓤 : Ura M} (𝓛 : Logic 𝓤) where
         via 𝓤 _ (fst∗ 𝓤 (sem 𝓛 (cell_raw full_share (bare τ ∷ []) vs b o)) (sem 𝓛 (R.own x vs))) (cell_room vs)))
 
     -- and what is written lies there
-    part-made : (y : R.Denot) (u : Val) →
+    part_made : (y : R.Denot) (u : Val) →
         ent 𝓤 (sep 𝓤 (H.at full_share τ b o u) (sem 𝓛 (R.own y (u ∷ [])))) (sem 𝓛 (part_at R full_share y b o))
     unfolding part_of
-    part-made y u =
+    part_made y u =
         subst
         (λ (τs : List Ty).
         ent 𝓤 (sep 𝓤 (H.at full_share τ b o u) (sem 𝓛 (R.own y (u ∷ []))))
@@ -129,9 +129,9 @@ module _ {M : Type 1} {𝓤 : Ura M} (𝓛 : Logic 𝓤) where
       (ys zs : List R.Denot) (i : ℕ) (y : R.Denot) (u : Val) (b o : ℕ) (P : SProp 𝓤) → Last 𝓛 Γ ss rs →
       R.mir ≡ τ ∷ [] → thing n rs ≡ row R full_share ys b o → thing m (without n rs) ≡ R.own y (u ∷ []) →
       i < length ys → set ys i y ≡ zs → T (has_ty τ u) × WT u →
-      ent 𝓤 (⋆ 𝓛 (with-last 𝓛 Γ (has 𝓤 ss ((n, row R full_share zs b o) ∷ without m (without n rs))))) P →
+      ent 𝓤 (⋆ 𝓛 (with_last 𝓛 Γ (has 𝓤 ss ((n, row R full_share zs b o) ∷ without m (without n rs))))) P →
       ent 𝓤 (⋆ 𝓛 Γ) (write 𝓤 H τ b (place_of (mem R).size o i) u P)
-  wrote_at Γ ss rs n m R τ ys zs i y u b o P e one is_row is-own inside same typed h =
+  wrote_at Γ ss rs n m R τ ys zs i y u b o P e one is_row is_own inside same typed h =
       let p : ℕ = place_of (mem R).size o i in
       let rs₁ : List Thing = without n rs in
       let rs₂ : List Thing = without m rs₁ in
@@ -142,13 +142,13 @@ module _ {M : Type 1} {𝓤 : Ura M} (𝓛 : Logic 𝓤) where
       (subst (λ (F : Fml). ent 𝓤 (mean 𝓛 (has 𝓤 ss rs)) (sep 𝓤 (sem 𝓛 F) (mean 𝓛 (has 𝓤 ss rs₁)))) is_row
       (found 𝓛 n ss rs)) $ split ! $ move ! (1 ∷ []) $
       use1 𝓛 (‵ (R.own y (u ∷ [])) ⊛ has 𝓤 ss rs₂)
-      (subst (λ (F : Fml). ent 𝓤 (mean 𝓛 (has 𝓤 ss rs₁)) (sep 𝓤 (sem 𝓛 F) (mean 𝓛 (has 𝓤 ss rs₂)))) is-own
+      (subst (λ (F : Fml). ent 𝓤 (mean 𝓛 (has 𝓤 ss rs₁)) (sep 𝓤 (sem 𝓛 F) (mean 𝓛 (has 𝓤 ss rs₂)))) is_own
       (found 𝓛 m ss rs₁)) $ split ! $ move ! (2 ∷ []) $
       use1 𝓛 (‵ (part_at R full_share (get_or ys i y) b p) ⊛ ‵ (others (shares R) full_share ys i b o))
       (takes_out (shares R) full_share 𝓛 ys i y b o inside) $ split ! $
       use1 𝓛 (‵ (froom τ b p)) (part_room R τ one b p (get_or ys i y)) $ frame ! $
       assume ! (‵ (fat full_share τ b p u)) $ move ! (0 ∷ 2 ∷ []) $
-      use2 𝓛 (‵ (part_at R full_share y b p)) (part-made R τ one b p y u) $ move ! (0 ∷ 1 ∷ []) $
+      use2 𝓛 (‵ (part_at R full_share y b p)) (part_made R τ one b p y u) $ move ! (0 ∷ 1 ∷ []) $
       use2 𝓛 (‵ (row R full_share zs b o))
       (subst
       (λ (xs : List R.Denot).
@@ -161,8 +161,8 @@ module _ {M : Type 1} {𝓤 : Ura M} {𝓛 : Logic 𝓤} {K : Type 0} {Γ : List
   -- an expression at an equal value
   open 𝓛 use {H}
 
-  pub same-value : K → {E : Env 𝓤 H} {rv : RValue} {v v' : Val} → v ≡ v' → Rv K 𝓛 Γ E rv v → Rv K 𝓛 Γ E rv v'
-  same-value t {E} {rv} e r = subst (λ (v : Val). Rv K 𝓛 Γ E rv v) e r
+  pub same_value : K → {E : Env 𝓤 H} {rv : RValue} {v v' : Val} → v ≡ v' → Rv K 𝓛 Γ E rv v → Rv K 𝓛 Γ E rv v'
+  same_value t {E} {rv} e r = subst (λ (v : Val). Rv K 𝓛 Γ E rv v) e r
 
   module _ {E : Env 𝓤 H} {ss : List Slot} {rs : List Thing} where
     -- where a slice lies that a local holds, as an operand
@@ -176,15 +176,15 @@ module _ {M : Type 1} {𝓤 : Ura M} {𝓛 : Logic 𝓤} {K : Type 0} {Γ : List
         (subst (λ (x : Spot 𝓤 H). Walks K 𝓛 Γ E x (field 0 ∷ []) (ty_ref ℓ μ τ, b, zero))
         (sym (spot 𝓛 Γ E ss rs k (slice_ty (ty_ref ℓ μ τ), b, holds (slice_val (p, o) n)) e f))
         (fld t {sp = sp} refl (stop t))))
-        (within t (ap (λ (x : Item 𝓤 × Env 𝓤 H). x.0) e) (sub t 0 refl (in-local t k f)))
+        (within t (ap (λ (x : Item 𝓤 × Env 𝓤 H). x.0) e) (sub t 0 refl (in_local t k f)))
 
     module _ {C : Calls 𝓤 H} {Λ : Loops 𝓤 H} {q : Post 𝓤 H} where
       -- a local is assigned, and nothing follows
-      pub lets-last : K → {k : ℕ} {rv : RValue} {v : Val} → Rv K 𝓛 Γ E rv v → Here 𝓛 Γ E ss rs →
+      pub lets_last : K → {k : ℕ} {rv : RValue} {v : Val} → Rv K 𝓛 Γ E rv v → Here 𝓛 Γ E ss rs →
           Free (get k ss).2 → T (has_ty (get k ss).0 v) × WT v →
-          Step K 𝓛 (with-last 𝓛 Γ (has 𝓤 (set-cell k (holds v) ss) rs)) (prop (post 𝓤 H q next)) Γ
+          Step K 𝓛 (with_last 𝓛 Γ (has 𝓤 (set_cell k (holds v) ss) rs)) (prop (post 𝓤 H q next)) Γ
           (runs C Λ E (assign (place k []) rv) q)
-      lets-last t {k} {rv} {v} r e free typed =
+      lets_last t {k} {rv} {v} r e free typed =
           assigns_last t r (from t (stop t)) (writes t E ss rs k v e free typed)
 
       -- an element of the row that is kept as n is stored, through the pointer in local k, from local j. What is owned
@@ -194,26 +194,26 @@ module _ {M : Type 1} {𝓤 : Ura M} {𝓛 : Logic 𝓤} {K : Type 0} {Γ : List
           (get k ss).2 ≡ holds (vptr b (place_of (mem R).size o i)) → (get j ss).2 ≡ holds u →
           thing n rs ≡ row R full_share ys b o → thing m (without n rs) ≡ R.own y (u ∷ []) → i < length ys →
           set ys i y ≡ zs → T (has_ty τ u) × WT u →
-          Step K 𝓛 (with-last 𝓛 Γ (has 𝓤 ss ((n, row R full_share zs b o) ∷ without m (without n rs))))
+          Step K 𝓛 (with_last 𝓛 Γ (has 𝓤 ss ((n, row R full_share zs b o) ∷ without m (without n rs))))
           (runs C Λ E rest q) Γ
           (runs C Λ E (seq (assign (place k (deref τ ∷ [])) (rv_opd (copy (place j [])))) rest) q)
-      stores_at t n m R {τ} ys zs i y {u} {b} o {k} {j} e one at from-local is_row is-own inside same typed =
-          assigns t {sp = (τ, b, place_of (mem R).size o i)} (of_opd t (var t e from-local))
+      stores_at t n m R {τ} ys zs i y {u} {b} o {k} {j} e one at from_local is_row is_own inside same typed =
+          assigns t {sp = (τ, b, place_of (mem R).size o i)} (of_opd t (var t e from_local))
           (from t
           (hop t {sp = spot_of 𝓤 H E k} (reads t E ss rs k (vptr b (place_of (mem R).size o i)) e at) (stop t)))
           (record {
             go = λ P h.
                 wrote_at 𝓛 Γ ss rs n m R τ ys zs i y u b o P (ap (λ (p : Item 𝓤 × Env 𝓤 H). p.0) e) one is_row
-                is-own inside same typed h;
+                is_own inside same typed h;
           })
 
   -- locals are emptied, and of the things just these are kept, in this order
   pub tidies : K → {ss : List Slot} {rs : List Thing} {G : Goal 𝓤 H} (ks ns : List ℕ) → Last 𝓛 Γ ss rs →
       Empties ks ss →
-      Step K 𝓛 (with-last 𝓛 Γ (has 𝓤 (emptied ks ss) (naming ns (things ns rs)))) G Γ G
+      Step K 𝓛 (with_last 𝓛 Γ (has 𝓤 (emptied ks ss) (naming ns (things ns rs)))) G Γ G
   tidies t {ss} {rs} ks ns e ok = brings (has 𝓤 (emptied ks ss) (naming ns (things ns rs))) e t []
       (via 𝓤 _ (empties 𝓛 ks ss rs ok)
-      (via 𝓤 _ (keeps-only 𝓛 ns (emptied ks ss) rs)
+      (via 𝓤 _ (keeps_only 𝓛 ns (emptied ks ss) rs)
       (emp∗ 𝓤 (mean 𝓛 (has 𝓤 (emptied ks ss) (naming ns (things ns rs)))))))
 
 module _ {M : Type 1} {𝓤 : Ura M} (𝓛 : Logic 𝓤) (𝓣 : Tables 𝓤 𝓛.H) (E : Env 𝓤 𝓛.H)
@@ -235,7 +235,7 @@ module _ {M : Type 1} {𝓤 : Ura M} (𝓛 : Logic 𝓤) (𝓣 : Tables 𝓤 �
 
   -- the locals after the test
   abbrev tested : Bool → ℕ → List Slot
-  tested y i = set-cell t (holds (vbool y)) (ss i)
+  tested y i = set_cell t (holds (vbool y)) (ss i)
 
   -- what a turn needs of the locals: all of it computes, so it is shown by `refl`
   abbrev Looks : Bool → ℕ → Type 0
@@ -252,7 +252,7 @@ module _ {M : Type 1} {𝓤 : Ura M} (𝓛 : Logic 𝓤) (𝓣 : Tables 𝓤 �
       let here : Here 𝓛 (has 𝓤 (ss i) (rs i) ∷ []) E (ss i) (rs i) =
       ap (λ (F : Env 𝓤 H). (has 𝓤 (ss i) (rs i), F)) (ap (λ (p : Look). p.0) e) in
       lets !
-      (same-value ! (ap vbool is)
+      (same_value ! (ap vbool is)
       (bin ! (var ! here (ap (λ (p : Look). p.1) e)) (var ! here (ap (λ (p : Look). p.2) e)) tt)) here
       (subst Free (sym (ap (λ (p : Look). p.4) e)) tt)
       (subst (λ (τ : Ty). T (has_ty τ (vbool y)) × WT (vbool y)) (sym (ap (λ (p : Look). p.3) e)) (tt, tt))
@@ -273,23 +273,23 @@ module _ {M : Type 1} {𝓤 : Ura M} (𝓛 : Logic 𝓤) (𝓣 : Tables 𝓤 �
   unfolding after_turn
   looped looks turn after = record {
     prf =
-        counted-loop 𝓛 𝓣 E test Left n (λ i. mean 𝓛 (has 𝓤 (ss i) (rs i)))
+        counted_loop 𝓛 𝓣 E test Left n (λ i. mean 𝓛 (has 𝓤 (ss i) (rs i)))
         (λ i X small h.
-        (tests true i (after_turn 𝓤 H X Left) (looks true i) (test-holds (ltb i n) (lt→ltb i n small)) $
+        (tests true i (after_turn 𝓤 H X Left) (looks true i) (test_holds (ltb i n) (lt→ltb i n small)) $
         stays ! (outcome true i (looks true i)) $ turn i (after_turn 𝓤 H X Left) small h).prf)
         (λ X.
-        (tests false n (after_turn 𝓤 H X Left) (looks false n) (test-fails (ltb n n) (λ a. lt_irrefl n (ltb→lt n n a))) $
+        (tests false n (after_turn 𝓤 H X Left) (looks false n) (test_fails (ltb n n) (λ a. lt_irrefl n (ltb→lt n n a))) $
         leaves_loop ! (outcome false n (looks false n)) $ record { prf = after.prf }).prf);
   }
 
 -- `while i < n`: i is in local k, n in local l, and the test in local t
-pub while-below : {M : Type 1} {𝓤 : Ura M} (𝓛 : Logic 𝓤) (𝓣 : Tables 𝓤 𝓛.H) {E : Env 𝓤 𝓛.H}
+pub while_below : {M : Type 1} {𝓤 : Ura M} (𝓛 : Logic 𝓤) (𝓣 : Tables 𝓤 𝓛.H) {E : Env 𝓤 𝓛.H}
     {k l t : ℕ} {body rest : Body} {q : Post 𝓤 𝓛.H} (n : ℕ) (ss : ℕ → List Slot) (rs : ℕ → List Thing) →
     ((y : Bool) (i : ℕ) → Looks 𝓛 𝓣 E k l t body rest q n ss rs y i) →
     ((i : ℕ) (Q : Out → SProp 𝓤) → i < n → ent 𝓤 (mean 𝓛 (has 𝓤 (ss (suc i)) (rs (suc i)))) (Q next) →
-    Seq (Go {0}) 𝓛 (has 𝓤 (set-cell t (holds (vbool true)) (ss i)) (rs i) ∷ [])
+    Seq (Go {0}) 𝓛 (has 𝓤 (set_cell t (holds (vbool true)) (ss i)) (rs i) ∷ [])
     (runs 𝓣.C 𝓣.Λ E body (any_q Q))) →
-    Seq (Go {0}) 𝓛 (has 𝓤 (set-cell t (holds (vbool false)) (ss n)) (rs n) ∷ []) (runs 𝓣.C 𝓣.Λ E rest q) →
+    Seq (Go {0}) 𝓛 (has 𝓤 (set_cell t (holds (vbool false)) (ss n)) (rs n) ∷ []) (runs 𝓣.C 𝓣.Λ E rest q) →
     Seq (Go {0}) 𝓛 (has 𝓤 (ss 0) (rs 0) ∷ [])
     (runs 𝓣.C 𝓣.Λ E
     (seq
@@ -297,4 +297,4 @@ pub while-below : {M : Type 1} {𝓤 : Ura M} (𝓛 : Logic 𝓤) (𝓣 : Tables
     (loop
     (seq (assign (place t []) (op2 (lt unsigned) (copy (place k [])) (copy (place l []))))
     (seq (cond (copy (place t [])) skip (exit 1)) body)))) rest) q)
-while-below 𝓛 𝓣 {E} {k} {l} {t} {body} {rest} {q} n ss rs = looped 𝓛 𝓣 E k l t body rest q n ss rs
+while_below 𝓛 𝓣 {E} {k} {l} {t} {body} {rest} {q} n ss rs = looped 𝓛 𝓣 E k l t body rest q n ss rs

@@ -1,8 +1,8 @@
 -- The lowest number that is not withdrawn, in a list of withdrawn numbers that ascends.
 --   Front gone i      the first i withdrawn numbers are the numbers below i
---   front-more        one number more
---   lowest-found      i is the lowest number that is not withdrawn, where it does not stand at its own index
---   lowest-remains    where some zone of n remains, the lowest number that is not withdrawn is one
+--   front_more        one number more
+--   lowest_found      i is the lowest number that is not withdrawn, where it does not stand at its own index
+--   lowest_remains    where some zone of n remains, the lowest number that is not withdrawn is one
 -- Each element of a list that ascends is at least its index. So a number that all lower numbers stand before can only
 -- stand at its own index. Assumes nothing.
 use Prim.Native.Nat.{ℕ, zero, suc, ◌+◌, ◌≤◌, ◌<◌}
@@ -14,62 +14,62 @@ use mathlib.Core.List.{List, [], ◌∷◌, Memᴰ as In}
 use lib.ListN.{length, get_or}
 use borrow.Author.Count.{below_more}
 use Rattle.rules.specs.Network.{Above, Ascending, remaining}
-use Rattle.theory.proofs.Ground.Bools.{true-not-false}
-use Rattle.theory.proofs.Withdrawn.Remaining.{true-listed, false-listed, remaining-in, in-remaining}
+use Rattle.theory.proofs.Ground.Bools.{true_not_false}
+use Rattle.theory.proofs.Withdrawn.Remaining.{true_listed, false_listed, remaining_in, in_remaining}
 use Rattle.memory.proofs.Numbers.{below?}
-use Rattle.theory.proofs.Ground.Indices.{at_in, in-at}
+use Rattle.theory.proofs.Ground.Indices.{at_in, in_at}
 use Rattle.withdrawn.specs.Withdrawn.{Lowest}
 
 -- an element of a list that ascends from above a number
-above-least : (a : ℕ) (xs : List ℕ) (k : ℕ) → Above a xs → k < length xs → a + suc k ≤ get_or xs k 0
-above-least a [] k h l = absurd (not-suc-le-zero l)
-above-least a (x ∷ xs) zero h l = omega (arith, h.0)
-above-least a (x ∷ xs) (suc k) h l = omega (arith, h.0, above-least x xs k h.1 (omega arith))
+above_least : (a : ℕ) (xs : List ℕ) (k : ℕ) → Above a xs → k < length xs → a + suc k ≤ get_or xs k 0
+above_least a [] k h l = absurd (not-suc-le-zero l)
+above_least a (x ∷ xs) zero h l = omega (arith, h.0)
+above_least a (x ∷ xs) (suc k) h l = omega (arith, h.0, above_least x xs k h.1 (omega arith))
 
 -- an element of a list that ascends is at least its index
-ascending-least : (xs : List ℕ) (k : ℕ) → Ascending xs → k < length xs → k ≤ get_or xs k 0
-ascending-least [] k h l = absurd (not-suc-le-zero l)
-ascending-least (x ∷ xs) zero h l = omega arith
-ascending-least (x ∷ xs) (suc k) h l = omega (arith, above-least x xs k h (omega arith))
+ascending_least : (xs : List ℕ) (k : ℕ) → Ascending xs → k < length xs → k ≤ get_or xs k 0
+ascending_least [] k h l = absurd (not-suc-le-zero l)
+ascending_least (x ∷ xs) zero h l = omega arith
+ascending_least (x ∷ xs) (suc k) h l = omega (arith, above_least x xs k h (omega arith))
 
 -- the first i numbers of the list are the numbers below i
 abbrev pub Front : List ℕ → ℕ → Type 0
 Front gone i = (j : ℕ) → j < i → get_or gone j 0 ≡ j
 
 -- one number more
-pub front-more : (gone : List ℕ) (i : ℕ) → Front gone i → get_or gone i 0 ≡ i → Front gone (i + 1)
-front-more gone i F e = below_more (λ (j : ℕ). get_or gone j 0 ≡ j) i F e
+pub front_more : (gone : List ℕ) (i : ℕ) → Front gone i → get_or gone i 0 ≡ i → Front gone (i + 1)
+front_more gone i F e = below_more (λ (j : ℕ). get_or gone j 0 ≡ j) i F e
 
 -- the list ascends, and begins with the numbers below i
 module _ (gone : List ℕ) (A : Ascending gone) (i : ℕ) (l : i ≤ length gone) (F : Front gone i) where
   -- where i stands in the list, it stands at its own index
-  own-index : In i gone → (i < length gone) × (get_or gone i 0 ≡ i)
-  own-index m =
-      let x = in-at m in
+  own_index : In i gone → (i < length gone) × (get_or gone i 0 ≡ i)
+  own_index m =
+      let x = in_at m in
       elim (below? x.index i) [
         | inl low ↦ let e = F x.index low in omega (arith, x.is)
         | inr high ↦
-            let least = ascending-least gone x.index A x.inside in
+            let least = ascending_least gone x.index A x.inside in
             let e : x.index ≡ i = omega (arith, x.is) in
             (omega (arith, x.inside), subst (λ (k : ℕ). get_or gone k 0 ≡ i) e x.is)
       ]
 
   -- a number that does not is the lowest that is not withdrawn
-  pub lowest-found : (i < length gone → get_or gone i 0 ≡ i → ⊥) → Lowest gone i
-  lowest-found other =
+  pub lowest_found : (i < length gone → get_or gone i 0 ≡ i → ⊥) → Lowest gone i
+  lowest_found other =
       record {
-        stays = false-listed gone i (λ m. let o = own-index m in other o.0 o.1);
+        stays = false_listed gone i (λ m. let o = own_index m in other o.0 o.1);
         first =
             λ y h.
-            true-listed (subst (λ (k : ℕ). In k gone) (F y h) (at_in gone y (omega arith)));
+            true_listed (subst (λ (k : ℕ). In k gone) (F y h) (at_in gone y (omega arith)));
       }
 
 -- where some zone remains, the lowest number that is not withdrawn is one that does
-pub lowest-remains : (n : ℕ) (gone : List ℕ) {z o : ℕ} → In z (remaining n gone) → Lowest gone o →
+pub lowest_remains : (n : ℕ) (gone : List ℕ) {z o : ℕ} → In z (remaining n gone) → Lowest gone o →
     In o (remaining n gone)
-lowest-remains n gone {z} {o} m L =
-    let r = remaining-in n gone m in
+lowest_remains n gone {z} {o} m L =
+    let r = remaining_in n gone m in
     elim (below? z o) [
-      | inl low ↦ absurd (true-not-false (L.first z low) r.1)
-      | inr high ↦ in-remaining n gone (omega (arith, r.0)) L.stays
+      | inl low ↦ absurd (true_not_false (L.first z low) r.1)
+      | inr high ↦ in_remaining n gone (omega (arith, r.0)) L.stays
     ]

@@ -1,6 +1,6 @@
 -- Stamps at the places of withdrawn numbers.
---   stamped-none     nothing is stamped yet
---   stamped-more     one number more is stamped
+--   stamped_none     nothing is stamped yet
+--   stamped_more     one number more is stamped
 -- A number stands among the first k + 1 of a list where it stands among the first k, or is the next. Assumes nothing.
 use Prim.Native.Nat.{ℕ, ◌+◌, ◌≤◌, ◌<◌}
 use native.Mathlib.Omega.{arith}
@@ -15,22 +15,22 @@ use lib.Seq.{take-suc, take-set-le, drop-set-lt, get_or-set_same, get_or-set_oth
 use borrow.Author.Tests.{eq-eqb, ne_eqb}
 use Rattle.rules.specs.Lists.{listed}
 use Rattle.theory.proofs.Ground.Bools.{bool_cases}
-use Rattle.theory.proofs.Ground.Lists.{any-hit, any-miss}
+use Rattle.theory.proofs.Ground.Lists.{any_hit, any_miss}
 use Rattle.memory.specs.Regions.{cell}
 use Rattle.memory.proofs.Numbers.{same?}
 use Rattle.withdrawn.specs.Withdrawn.{stamped, Stamped}
 
 -- a number stands in a list with one element more where it stands in the list, or is that element
-listed-end : (xs : List ℕ) (x z : ℕ) → listed (xs ++ (x ∷ [])) z ≡ (eqb z x || listed xs z)
-listed-end [] x z = alone (eqb z x)
+listed_end : (xs : List ℕ) (x z : ℕ) → listed (xs ++ (x ∷ [])) z ≡ (eqb z x || listed xs z)
+listed_end [] x z = alone (eqb z x)
   where
     alone : (b : Bool) → elim b as (λ c. Bool) [ true ↦ true | false ↦ false ] ≡ (b || false)
     alone true = refl
     alone false = refl
-listed-end (y ∷ ys) x z =
+listed_end (y ∷ ys) x z =
     elim (bool_cases (eqb z y)) [
-      | inl e ↦ rw (any-hit (eqb z) (ys ++ (x ∷ [])) e, any-hit (eqb z) ys e) (ends (eqb z x))
-      | inr e ↦ rw (any-miss (eqb z) (ys ++ (x ∷ [])) e, any-miss (eqb z) ys e) (listed-end ys x z)
+      | inl e ↦ rw (any_hit (eqb z) (ys ++ (x ∷ [])) e, any_hit (eqb z) ys e) (ends (eqb z x))
+      | inr e ↦ rw (any_miss (eqb z) (ys ++ (x ∷ [])) e, any_miss (eqb z) ys e) (listed_end ys x z)
     ]
   where
     ends : (b : Bool) → true ≡ (b || true)
@@ -38,8 +38,8 @@ listed-end (y ∷ ys) x z =
     ends false = refl
 
 -- nothing is stamped yet
-pub stamped-none : (w : List ℕ) (at n x : ℕ) → Stamped w w at n [] x
-stamped-none w at n x = record { long = refl; inside = λ z h. refl; below = refl; above = refl }
+pub stamped_none : (w : List ℕ) (at n x : ℕ) → Stamped w w at n [] x
+stamped_none w at n x = record { long = refl; inside = λ z h. refl; below = refl; above = refl }
 
 -- the first k numbers are stamped in w', and the next is below n
 module _
@@ -56,12 +56,12 @@ module _
 
     -- a number stands among the first k + 1 where it is the next, or stands among the first k
     listed_more : (z : ℕ) → listed (take (k + 1) gone) z ≡ (eqb z next || listed (take k gone) z)
-    listed_more z = rw (add-one k, take-suc gone k 0 more) (listed-end (take k gone) next z)
+    listed_more z = rw (add-one k, take-suc gone k 0 more) (listed_end (take k gone) next z)
 
     -- what then stands for a number
-    next-inside : (z : ℕ) → z < n →
+    next_inside : (z : ℕ) → z < n →
         cell (set w' (at + next) x) at z ≡ stamped (listed (take (k + 1) gone) z) x (cell w at z)
-    next-inside z h =
+    next_inside z h =
         elim (same? z next) [
           | inl e ↦
               rw (listed_more z, eq-eqb z next e, e)
@@ -72,10 +72,10 @@ module _
         ]
 
     -- one number more is stamped
-    pub stamped-more : Stamped w (set w' (at + next) x) at n (take (k + 1) gone) x
-    stamped-more =
+    pub stamped_more : Stamped w (set w' (at + next) x) at n (take (k + 1) gone) x
+    stamped_more =
         record {
-          inside = next-inside;
+          inside = next_inside;
           long = length-set w' (at + next) x ∙ S.long;
           below = take-set-le at w' (at + next) x (omega arith) ∙ S.below;
           above = drop-set-lt (at + n) w' (at + next) x (omega arith) ∙ S.above;

@@ -1,19 +1,19 @@
 -- Networks with withdrawn zones, in lent work memory.
---   Ready-with m ts hs gone w   a network that passed its tests, with its withdrawn numbers, and memory as asked
+--   ReadyWith m ts hs gone w   a network that passed its tests, with its withdrawn numbers, and memory as asked
 --   Lowest gone z               z is the lowest number that is not withdrawn
 --   stamped b x y               what stands for a number: x where it is withdrawn, else y, which stood there
 --   Stamped w w' at n gone x    where the n places from `at` on stand for numbers, x stands for each withdrawn one
 use Rattle.std.specs.Prelude.{◌≡◌, Bool, true, false, List, ℕ, ◌+◌, ◌<◌, length, take, drop}
 use Rattle.rules.specs.Lists.{listed}
-use Rattle.theory.proofs.Files.Accepting.{Fine-with}
+use Rattle.theory.proofs.Files.Accepting.{FineWith}
 use Rattle.workmap.specs.declared.Map.{Map}
 use Rattle.memory.specs.Regions.{cell}
 use Rattle.arranged.specs.Ready.{Readyable}
 
 -- a network that passed its tests, with its withdrawn numbers, and memory as long as asked
-pub record Ready-with (m : Map) (ts hs gone w : List ℕ) : Type 0 where
+pub record ReadyWith (m : Map) (ts hs gone w : List ℕ) : Type 0 where
   pub ready : Readyable m ts hs w
-  pub fine : Fine-with m.zones ts hs gone
+  pub fine : FineWith m.zones ts hs gone
 
 -- the lowest number that is not withdrawn
 pub record Lowest (gone : List ℕ) (z : ℕ) : Type 0 where

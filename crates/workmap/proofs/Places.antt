@@ -1,13 +1,13 @@
 -- Laws of the map of lent work memory: it is put together from its parts, and each place is a number.
---   map-parts   parts that are as the map has them make the map
---   placed, searches-placed, .. links-placed   of a map that is `map_of n k`: the places of the rows, of the searches
+--   map_parts   parts that are as the map has them make the map
+--   placed, searches_placed, .. links_placed   of a map that is `map_of n k`: the places of the rows, of the searches
 --               and of each other pass, as numbers. A proof that has one of these in scope tells places apart by
 --               arithmetic, and writes no number itself.
 -- Assumes nothing.
 use mathlib.Core.Path.{◌≡◌, refl}
 use Prim.Native.Nat.{ℕ, ◌+◌, ◌*◌}
 use native.Mathlib.Omega.{arith}
-use Rattle.rules.specs.Calls.{asked-work}
+use Rattle.rules.specs.Calls.{asked_work}
 use Rattle.workmap.specs.declared.RowsAt.{RowsAt}
 use Rattle.workmap.specs.declared.SearchAt.{SearchAt}
 use Rattle.workmap.specs.declared.OrderAt.{OrderAt}
@@ -20,13 +20,13 @@ use Rattle.workmap.specs.declared.RingsAt.{RingsAt}
 use Rattle.workmap.specs.declared.PlacesAt.{PlacesAt}
 use Rattle.workmap.specs.declared.TableAt.{TableAt}
 use Rattle.workmap.specs.declared.Map.{Map}
-use Rattle.workmap.specs.Map.{rows_at, turned-at, search-at, back_at, order-at, names_at, kinds-at, lists_at}
-use Rattle.workmap.specs.Map.{pairs-at, links-at, rings-at, places-at, table_at, map_of}
+use Rattle.workmap.specs.Map.{rows_at, turned_at, search_at, back_at, order_at, names_at, kinds_at, lists_at}
+use Rattle.workmap.specs.Map.{pairs_at, links_at, rings_at, places_at, table_at, map_of}
 
 -- a map of given parts
-abbrev pub parts-map : ℕ → ℕ → ℕ → RowsAt → RowsAt → SearchAt → SearchAt → OrderAt → NamesAt → KindsAt → ListsAt
+abbrev pub parts_map : ℕ → ℕ → ℕ → RowsAt → RowsAt → SearchAt → SearchAt → OrderAt → NamesAt → KindsAt → ListsAt
     → PairsAt → LinksAt → RingsAt → PlacesAt → TableAt → RowsAt → Map
-parts-map n m a r t s b o e k l p i x y z q =
+parts_map n m a r t s b o e k l p i x y z q =
     record {
       zones = n;
       arcs = m;
@@ -48,13 +48,13 @@ parts-map n m a r t s b o e k l p i x y z q =
     }
 
 -- parts that are as the map has them make the map
-pub map-parts : {n m a : ℕ} {r t : RowsAt} {s b : SearchAt} {o : OrderAt} {e : NamesAt} {k : KindsAt} {l : ListsAt}
+pub map_parts : {n m a : ℕ} {r t : RowsAt} {s b : SearchAt} {o : OrderAt} {e : NamesAt} {k : KindsAt} {l : ListsAt}
     {p : PairsAt} {i : LinksAt} {x : RingsAt} {y : PlacesAt} {z : TableAt} {q : RowsAt}
-    → a ≡ asked-work n m → r ≡ rows_at n → t ≡ turned-at n m → s ≡ search-at n → b ≡ back_at n → o ≡ order-at n
-    → e ≡ names_at n → k ≡ kinds-at n → l ≡ lists_at n → p ≡ pairs-at n → i ≡ links-at n
-    → x ≡ rings-at n → y ≡ places-at n → z ≡ table_at n → q ≡ rows_at n
-    → parts-map n m a r t s b o e k l p i x y z q ≡ map_of n m
-map-parts ea er et es eb eo ee ek el ep ei ex ey ez eq =
+    → a ≡ asked_work n m → r ≡ rows_at n → t ≡ turned_at n m → s ≡ search_at n → b ≡ back_at n → o ≡ order_at n
+    → e ≡ names_at n → k ≡ kinds_at n → l ≡ lists_at n → p ≡ pairs_at n → i ≡ links_at n
+    → x ≡ rings_at n → y ≡ places_at n → z ≡ table_at n → q ≡ rows_at n
+    → parts_map n m a r t s b o e k l p i x y z q ≡ map_of n m
+map_parts ea er et es eb eo ee ek el ep ei ex ey ez eq =
     rw (ea, er, et, es, eb, eo, ee, ek, el, ep, ei, ex, ey, ez, eq) refl
 
 -- where a map has the counts, what is asked for, and the rows
@@ -62,22 +62,22 @@ pub record Placed (m : Map) (n k : ℕ) : Type 0 where
   pub zones : m.zones ≡ n
   pub arcs : m.arcs ≡ k
   pub asked : m.asked ≡ 16 * n + 3 * k
-  pub rows-zones : m.rows.zones ≡ n
-  pub rows-starts : m.rows.starts ≡ 12 * n
-  pub rows-rows : m.rows.rows ≡ 13 * n + 1
-  pub turned-zones : m.turned.zones ≡ n
-  pub turned-starts : m.turned.starts ≡ 13 * n + 1 + k
+  pub rows_zones : m.rows.zones ≡ n
+  pub rows_starts : m.rows.starts ≡ 12 * n
+  pub rows_rows : m.rows.rows ≡ 13 * n + 1
+  pub turned_zones : m.turned.zones ≡ n
+  pub turned_starts : m.turned.starts ≡ 13 * n + 1 + k
   pub turned_rows : m.turned.rows ≡ 14 * n + 2 + k
 
 -- where a map has the searches
-pub record Searches-placed (m : Map) (n k : ℕ) : Type 0 where
+pub record SearchesPlaced (m : Map) (n k : ℕ) : Type 0 where
   pub marks : m.search.marks ≡ 0
   pub queue : m.search.queue ≡ n
-  pub back-marks : m.back.marks ≡ 2 * n
-  pub back-queue : m.back.queue ≡ 3 * n
+  pub back_marks : m.back.marks ≡ 2 * n
+  pub back_queue : m.back.queue ≡ 3 * n
 
 -- where a map has the components
-pub record Names-placed (m : Map) (n k : ℕ) : Type 0 where
+pub record NamesPlaced (m : Map) (n k : ℕ) : Type 0 where
   pub tops : m.names.tops ≡ 4 * n
   pub names : m.names.names ≡ 5 * n
   pub low : m.names.low ≡ 6 * n
@@ -85,26 +85,26 @@ pub record Names-placed (m : Map) (n k : ℕ) : Type 0 where
   pub queue : m.names.queue ≡ 8 * n
 
 -- where a map has the kinds
-pub record Kinds-placed (m : Map) (n k : ℕ) : Type 0 where
+pub record KindsPlaced (m : Map) (n k : ℕ) : Type 0 where
   pub zones : m.kinds.zones ≡ n
   pub names : m.kinds.names ≡ 5 * n
   pub entered : m.kinds.entered ≡ 2 * n
   pub exited : m.kinds.exited ≡ 3 * n
 
 -- where a map has the names of each kind
-pub record Lists-placed (m : Map) (n k : ℕ) : Type 0 where
+pub record ListsPlaced (m : Map) (n k : ℕ) : Type 0 where
   pub sources : m.lists.sources ≡ 4 * n
   pub sinks : m.lists.sinks ≡ 6 * n
   pub alone : m.lists.alone ≡ 7 * n
 
 -- where a map has the pairs
-pub record Pairs-placed (m : Map) (n k : ℕ) : Type 0 where
+pub record PairsPlaced (m : Map) (n k : ℕ) : Type 0 where
   pub firsts : m.pairs.firsts ≡ 8 * n
   pub seconds : m.pairs.seconds ≡ 9 * n
   pub lone : m.pairs.lone ≡ 10 * n
 
 -- where a map has the links
-pub record Links-placed (m : Map) (n k : ℕ) : Type 0 where
+pub record LinksPlaced (m : Map) (n k : ℕ) : Type 0 where
   pub stations : m.links.stations ≡ 2 * n
   pub from : m.links.from ≡ 0
   pub to : m.links.to ≡ n
@@ -119,28 +119,28 @@ module _ {m : Map} {n k : ℕ} (e : m ≡ map_of n k) where
         zones = omega arith;
         arcs = omega arith;
         asked = omega arith;
-        rows-zones = omega arith;
-        rows-starts = omega arith;
-        rows-rows = omega arith;
-        turned-zones = omega arith;
-        turned-starts = omega arith;
+        rows_zones = omega arith;
+        rows_starts = omega arith;
+        rows_rows = omega arith;
+        turned_zones = omega arith;
+        turned_starts = omega arith;
         turned_rows = omega arith;
       }
 
   -- the map of n zones and k arcs has the searches there
-  pub searches-placed : Searches-placed m n k
-  searches-placed =
+  pub searches_placed : SearchesPlaced m n k
+  searches_placed =
       rw e
       record {
         marks = omega arith;
         queue = omega arith;
-        back-marks = omega arith;
-        back-queue = omega arith;
+        back_marks = omega arith;
+        back_queue = omega arith;
       }
 
   -- the map of n zones and k arcs has the components there
-  pub names-placed : Names-placed m n k
-  names-placed =
+  pub names_placed : NamesPlaced m n k
+  names_placed =
       rw e
       record {
         tops = omega arith;
@@ -151,17 +151,17 @@ module _ {m : Map} {n k : ℕ} (e : m ≡ map_of n k) where
       }
 
   -- the map of n zones and k arcs has the kinds there
-  pub kinds-placed : Kinds-placed m n k
-  kinds-placed = rw e record { zones = omega arith; names = omega arith; entered = omega arith; exited = omega arith }
+  pub kinds_placed : KindsPlaced m n k
+  kinds_placed = rw e record { zones = omega arith; names = omega arith; entered = omega arith; exited = omega arith }
 
   -- the map of n zones and k arcs has the names of each kind there
-  pub lists-placed : Lists-placed m n k
-  lists-placed = rw e record { sources = omega arith; sinks = omega arith; alone = omega arith }
+  pub lists_placed : ListsPlaced m n k
+  lists_placed = rw e record { sources = omega arith; sinks = omega arith; alone = omega arith }
 
   -- the map of n zones and k arcs has the pairs there
-  pub pairs-placed : Pairs-placed m n k
-  pairs-placed = rw e record { firsts = omega arith; seconds = omega arith; lone = omega arith }
+  pub pairs_placed : PairsPlaced m n k
+  pairs_placed = rw e record { firsts = omega arith; seconds = omega arith; lone = omega arith }
 
   -- the map of n zones and k arcs has the links there
-  pub links-placed : Links-placed m n k
-  links-placed = rw e record { stations = omega arith; from = omega arith; to = omega arith; why = omega arith }
+  pub links_placed : LinksPlaced m n k
+  links_placed = rw e record { stations = omega arith; from = omega arith; to = omega arith; why = omega arith }

@@ -10,9 +10,9 @@
 --   13 n + 1 + m   the starts of the turned rows, n + 1, then the turned rows, m
 -- The whole takes 14 n + 2 m + 2 elements, which is at most the 16 n + 3 m that are asked for.
 --   map_of n m   all places;   rows_at .. table_at   the places of one pass
---   row-places, search-places   rows and a search at places of any kind
+--   row_places, search_places   rows and a search at places of any kind
 use Rattle.std.specs.Prelude.{ℕ, ◌+◌, ◌*◌}
-use Rattle.rules.specs.Calls.{asked-work}
+use Rattle.rules.specs.Calls.{asked_work}
 use Rattle.workmap.specs.declared.RowsAt.{RowsAt}
 use Rattle.workmap.specs.declared.SearchAt.{SearchAt}
 use Rattle.workmap.specs.declared.OrderAt.{OrderAt}
@@ -27,60 +27,60 @@ use Rattle.workmap.specs.declared.TableAt.{TableAt}
 use Rattle.workmap.specs.declared.Map.{Map}
 
 -- rows of n zones, with their starts and the rows at two places
-abbrev pub row-places : ℕ → ℕ → ℕ → RowsAt
-row-places n starts rows = record { zones = n; starts = starts; rows = rows }
+abbrev pub row_places : ℕ → ℕ → ℕ → RowsAt
+row_places n starts rows = record { zones = n; starts = starts; rows = rows }
 
 -- a search with its marks and its queue at two places
-abbrev pub search-places : ℕ → ℕ → SearchAt
-search-places marks queue = record { marks = marks; queue = queue }
+abbrev pub search_places : ℕ → ℕ → SearchAt
+search_places marks queue = record { marks = marks; queue = queue }
 
 -- the rows: their starts, one more than there are zones, and the rows behind them
 abbrev pub rows_at : ℕ → RowsAt
-rows_at n = row-places n (12 * n) (13 * n + 1)
+rows_at n = row_places n (12 * n) (13 * n + 1)
 
 -- the turned rows
-abbrev pub turned-at : ℕ → ℕ → RowsAt
-turned-at n m = row-places n (13 * n + 1 + m) (14 * n + 2 + m)
+abbrev pub turned_at : ℕ → ℕ → RowsAt
+turned_at n m = row_places n (13 * n + 1 + m) (14 * n + 2 + m)
 
 -- a search
-abbrev pub search-at : ℕ → SearchAt
-search-at n = search-places 0 n
+abbrev pub search_at : ℕ → SearchAt
+search_at n = search_places 0 n
 
 -- a search against the arcs
 abbrev pub back_at : ℕ → SearchAt
-back_at n = search-places (2 * n) (3 * n)
+back_at n = search_places (2 * n) (3 * n)
 
 -- the finishing order
-abbrev pub order-at : ℕ → OrderAt
-order-at n = record { seen = 9 * n; next = 10 * n; order = 11 * n }
+abbrev pub order_at : ℕ → OrderAt
+order_at n = record { seen = 9 * n; next = 10 * n; order = 11 * n }
 
 -- the components
 abbrev pub names_at : ℕ → NamesAt
 names_at n = record { tops = 4 * n; names = 5 * n; low = 6 * n; roots = 7 * n; queue = 8 * n }
 
 -- the kinds
-abbrev pub kinds-at : ℕ → KindsAt
-kinds-at n = record { zones = n; names = 5 * n; entered = 2 * n; exited = 3 * n }
+abbrev pub kinds_at : ℕ → KindsAt
+kinds_at n = record { zones = n; names = 5 * n; entered = 2 * n; exited = 3 * n }
 
 -- the names of each kind
 abbrev pub lists_at : ℕ → ListsAt
 lists_at n = record { sources = 4 * n; sinks = 6 * n; alone = 7 * n }
 
 -- the pairs
-abbrev pub pairs-at : ℕ → PairsAt
-pairs-at n = record { firsts = 8 * n; seconds = 9 * n; lone = 10 * n }
+abbrev pub pairs_at : ℕ → PairsAt
+pairs_at n = record { firsts = 8 * n; seconds = 9 * n; lone = 10 * n }
 
 -- the links
-abbrev pub links-at : ℕ → LinksAt
-links-at n = record { stations = 2 * n; from = 0; to = n; why = 11 * n }
+abbrev pub links_at : ℕ → LinksAt
+links_at n = record { stations = 2 * n; from = 0; to = n; why = 11 * n }
 
 -- the rings
-abbrev pub rings-at : ℕ → RingsAt
-rings-at n = record { zones = n; last = 0; names = 5 * n }
+abbrev pub rings_at : ℕ → RingsAt
+rings_at n = record { zones = n; last = 0; names = 5 * n }
 
 -- the places of the components
-abbrev pub places-at : ℕ → PlacesAt
-places-at n = record { zones = n; spots = 2 * n; tops = 4 * n; names = 5 * n; order = 8 * n }
+abbrev pub places_at : ℕ → PlacesAt
+places_at n = record { zones = n; spots = 2 * n; tops = 4 * n; names = 5 * n; order = 8 * n }
 
 -- the network of the components
 abbrev pub table_at : ℕ → TableAt
@@ -92,19 +92,19 @@ map_of n m =
     record {
       zones = n;
       arcs = m;
-      asked = asked-work n m;
+      asked = asked_work n m;
       rows = rows_at n;
-      turned = turned-at n m;
-      search = search-at n;
+      turned = turned_at n m;
+      search = search_at n;
       back = back_at n;
-      order = order-at n;
+      order = order_at n;
       names = names_at n;
-      kinds = kinds-at n;
+      kinds = kinds_at n;
       lists = lists_at n;
-      pairs = pairs-at n;
-      links = links-at n;
-      rings = rings-at n;
-      places = places-at n;
+      pairs = pairs_at n;
+      links = links_at n;
+      rings = rings_at n;
+      places = places_at n;
       table = table_at n;
       sorting = rows_at n;
     }

@@ -3,9 +3,9 @@
 // after the other has a name for each use. No other crate says at which multiple of the zone count a place is: a pass
 // is handed the places that it uses, and asks of them only that they lie apart.
 ghost use Rattle.std.specs.Prelude.{◌≡◌, ◌≤◌};
-ghost use Rattle.rules.specs.Calls.{asked-work};
-ghost use Rattle.workmap.specs.Map.{rows_at, turned-at, search-at, back_at, order-at, names_at, kinds-at};
-ghost use Rattle.workmap.specs.Map.{lists_at, pairs-at, links-at, rings-at, places-at, table_at, map_of};
+ghost use Rattle.rules.specs.Calls.{asked_work};
+ghost use Rattle.workmap.specs.Map.{rows_at, turned_at, search_at, back_at, order_at, names_at, kinds_at};
+ghost use Rattle.workmap.specs.Map.{lists_at, pairs_at, links_at, rings_at, places_at, table_at, map_of};
 
 // Rows of heads: how many zones there are, and where the starts of the rows and the rows stand.
 #[derive(Drop)]
@@ -139,7 +139,7 @@ pub struct Map {
 pub fn asked_work(zones: usize, arcs: usize) -> usize
     requires zones_bound { zones ≤ 1024 }
     requires arcs_bound { arcs ≤ 4096 }
-    ensures { result ≡ asked-work zones arcs }
+    ensures { result ≡ asked_work zones arcs }
 {
     16 * zones + 3 * arcs
 }
@@ -160,7 +160,7 @@ fn rows_at(zones: usize) -> RowsAt
 fn turned_at(zones: usize, arcs: usize) -> RowsAt
     requires zones_bound { zones ≤ 1024 }
     requires arcs_bound { arcs ≤ 4096 }
-    ensures { result ≡ turned-at zones arcs }
+    ensures { result ≡ turned_at zones arcs }
 {
     RowsAt {
         zones: zones,
@@ -171,7 +171,7 @@ fn turned_at(zones: usize, arcs: usize) -> RowsAt
 
 // A search, at the front.
 fn search_at(zones: usize) -> SearchAt
-    ensures { result ≡ search-at zones }
+    ensures { result ≡ search_at zones }
 {
     SearchAt {
         marks: 0,
@@ -193,7 +193,7 @@ fn back_at(zones: usize) -> SearchAt
 // The finishing order, right before the rows.
 fn order_at(zones: usize) -> OrderAt
     requires { zones ≤ 1024 }
-    ensures { result ≡ order-at zones }
+    ensures { result ≡ order_at zones }
 {
     OrderAt {
         seen: 9 * zones,
@@ -219,7 +219,7 @@ fn names_at(zones: usize) -> NamesAt
 // The kinds, before the components; the names are where the components have them.
 fn kinds_at(zones: usize) -> KindsAt
     requires { zones ≤ 1024 }
-    ensures { result ≡ kinds-at zones }
+    ensures { result ≡ kinds_at zones }
 {
     KindsAt {
         zones: zones,
@@ -244,7 +244,7 @@ fn lists_at(zones: usize) -> ListsAt
 // The pairs, behind the names of each kind.
 fn pairs_at(zones: usize) -> PairsAt
     requires { zones ≤ 1024 }
-    ensures { result ≡ pairs-at zones }
+    ensures { result ≡ pairs_at zones }
 {
     PairsAt {
         firsts: 8 * zones,
@@ -256,7 +256,7 @@ fn pairs_at(zones: usize) -> PairsAt
 // The links, where the search was, and behind the pairs.
 fn links_at(zones: usize) -> LinksAt
     requires { zones ≤ 1024 }
-    ensures { result ≡ links-at zones }
+    ensures { result ≡ links_at zones }
 {
     LinksAt {
         stations: 2 * zones,
@@ -269,7 +269,7 @@ fn links_at(zones: usize) -> LinksAt
 // The rings, at the front; the names are where the components have them.
 fn rings_at(zones: usize) -> RingsAt
     requires { zones ≤ 1024 }
-    ensures { result ≡ rings-at zones }
+    ensures { result ≡ rings_at zones }
 {
     RingsAt {
         zones: zones,
@@ -281,7 +281,7 @@ fn rings_at(zones: usize) -> RingsAt
 // The places of the components, behind the rings; the names are where the components have them.
 fn places_at(zones: usize) -> PlacesAt
     requires { zones ≤ 1024 }
-    ensures { result ≡ places-at zones }
+    ensures { result ≡ places_at zones }
 {
     PlacesAt {
         zones: zones,

@@ -1,14 +1,14 @@
 // The test of a list of zone numbers: each below the zone count, and above the one before. One walk, which carries the
 // lowest number that may come next.
-ghost use Rattle.rules.specs.Calls.{list-tests};
-ghost use Rattle.probes.specs.Tested.{Found-after};
+ghost use Rattle.rules.specs.Calls.{list_tests};
+ghost use Rattle.probes.specs.Tested.{FoundAfter};
 
 use probes::Tested;
 use rules::{Trouble, TroubleKind};
 
 // LIST, after other tests: the first index at which the list is out of range or does not ascend.
 pub fn list(before: Tested, zones: usize, list: &[u16]) -> Tested
-    ensures { Found-after before (list-tests zones 0 0 list.now) result }
+    ensures { FoundAfter before (list_tests zones 0 0 list.now) result }
 {
     if let Tested::Refused(t) = before {
         return Tested::Refused(t);

@@ -5,10 +5,10 @@ use Prim.Native.Nat.{ℕ}
 use mathlib.Core.Bool.{Bool}
 use lib.ListN.{length}
 use Rattle.rules.specs.Lists.{listed}
-use Rattle.rules.specs.Calls.{question-tests, reach-trouble}
-use Rattle.probes.specs.Tested.{Found-after}
-use Rattle.probes.proofs.Chains.{found-on}
-use Rattle.intake.proofs.Counts.{counted, counted-on, taken-on, taken-told}
+use Rattle.rules.specs.Calls.{question_tests, reach_trouble}
+use Rattle.probes.specs.Tested.{FoundAfter}
+use Rattle.probes.proofs.Chains.{found_on}
+use Rattle.intake.proofs.Counts.{counted, counted_on, taken_on, taken_told}
 use Rattle.admission.proofs.reach.Statement.{statement}
 use Rattle.admission.proofs.reach.Tie as tie
 
@@ -23,19 +23,19 @@ entry c = c.before.before.before.before.before
 -- the question's tests find what those with the list of withdrawn numbers do
 asked : (c : tie.After-question) →
     let a = (entry (taken c)).args in
-    Found-after (taken c).network.result.found
-    (question-tests a.zones (length a.tails.now) (listed a.gone.now) a.from a.to)
+    FoundAfter (taken c).network.result.found
+    (question_tests a.zones (length a.tails.now) (listed a.gone.now) a.from a.to)
     c.question.result
 asked c =
     let a = (entry (taken c)).args in
-    taken-told (taken c).network.ensures
-    (λ (g : ℕ → Bool). question-tests a.zones (length a.tails.now) g a.from a.to) c.question.ensures
+    taken_told (taken c).network.ensures
+    (λ (g : ℕ → Bool). question_tests a.zones (length a.tails.now) g a.from a.to) c.question.ensures
 
 returns : tie.Need-returns
-unfolding reach-trouble
+unfolding reach_trouble
 returns c =
     let q = c.before in
-    (taken-on (taken q).network.ensures (found-on (asked q) c.work.ensures)).first
+    (taken_on (taken q).network.ensures (found_on (asked q) c.work.ensures)).first
 
 network-requires : tie.Need-network-requires
 network-requires c κs = search rules
@@ -44,7 +44,7 @@ question-requires : tie.Need-question-requires
 question-requires c κs = search rules
 
 work-requires : tie.Need-work-requires
-work-requires c κs = counted-on (counted (taken c).network.ensures) c.question.ensures
+work-requires c κs = counted_on (counted (taken c).network.ensures) c.question.ensures
 
-pub reach-spec : {M : Type 1} → statement M
-reach-spec = tie.close (tie.spec network-requires question-requires work-requires returns)
+pub reach_spec : {M : Type 1} → statement M
+reach_spec = tie.close (tie.spec network-requires question-requires work-requires returns)

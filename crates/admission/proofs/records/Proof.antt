@@ -1,8 +1,8 @@
 -- `records` meets its contract: its tests one after the other are those of the rules. Assumes nothing.
 use borrow.Author.Rules.{rules}
-use Rattle.rules.specs.Calls.{records-trouble}
-use Rattle.probes.proofs.Chains.{found-on}
-use Rattle.intake.proofs.Counts.{counted, taken-on}
+use Rattle.rules.specs.Calls.{records_trouble}
+use Rattle.probes.proofs.Chains.{found_on}
+use Rattle.intake.proofs.Counts.{counted, taken_on}
 use Rattle.admission.proofs.records.Statement.{statement}
 use Rattle.admission.proofs.records.Tie as tie
 
@@ -16,10 +16,10 @@ room-requires : tie.Need-room-requires
 room-requires c κs = search rules
 
 returns : tie.Need-returns
-unfolding records-trouble
+unfolding records_trouble
 returns c =
     let w = c.before in
-    (taken-on w.before.network.ensures (found-on w.work.ensures c.room.ensures)).first
+    (taken_on w.before.network.ensures (found_on w.work.ensures c.room.ensures)).first
 
-pub records-spec : {M : Type 1} → statement M
-records-spec = tie.close (tie.spec network-requires work-requires room-requires returns)
+pub records_spec : {M : Type 1} → statement M
+records_spec = tie.close (tie.spec network-requires work-requires room-requires returns)

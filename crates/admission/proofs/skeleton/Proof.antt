@@ -1,8 +1,8 @@
 -- `skeleton` meets its contract: its tests one after the other are those of the rules. Assumes nothing.
 use borrow.Author.Rules.{rules}
-use Rattle.rules.specs.Calls.{skeleton-trouble}
-use Rattle.probes.proofs.Chains.{found-on}
-use Rattle.intake.proofs.Counts.{counted, taken-on}
+use Rattle.rules.specs.Calls.{skeleton_trouble}
+use Rattle.probes.proofs.Chains.{found_on}
+use Rattle.intake.proofs.Counts.{counted, taken_on}
 use Rattle.admission.proofs.skeleton.Statement.{statement}
 use Rattle.admission.proofs.skeleton.Tie as tie
 
@@ -19,12 +19,12 @@ room-requires-2 : tie.Need-room-requires-2
 room-requires-2 c κs = search rules
 
 returns : tie.Need-returns
-unfolding skeleton-trouble
+unfolding skeleton_trouble
 returns c =
     let t = c.before in
     let w = t.before in
-    (taken-on w.before.network.ensures
-    (found-on w.work.ensures (found-on t.room.ensures c.room2.ensures))).first
+    (taken_on w.before.network.ensures
+    (found_on w.work.ensures (found_on t.room.ensures c.room2.ensures))).first
 
-pub skeleton-spec : {M : Type 1} → statement M
-skeleton-spec = tie.close (tie.spec network-requires work-requires room-requires room-requires-2 returns)
+pub skeleton_spec : {M : Type 1} → statement M
+skeleton_spec = tie.close (tie.spec network-requires work-requires room-requires room-requires-2 returns)

@@ -2,7 +2,7 @@
 use borrow.Author.Rules.{rules}
 use Prim.Native.Nat.{◌+◌, ◌*◌, ◌/◌, ◌%◌}
 use lib.ListN.{get_or}
-use Rattle.bits.proofs.Numbers.{bit-read}
+use Rattle.bits.proofs.Numbers.{bit_read}
 use Rattle.bits.specs.Bits.{bit_in}
 use Rattle.bits.proofs.has_bit.Statement.{statement}
 use Rattle.bits.proofs.has_bit.Tie as tie
@@ -11,7 +11,7 @@ returns : tie.Need-returns
 unfolding bit_in
 returns c =
     let a = c.before.args in
-    bit-read (get_or a.work.now (a.a * a.words + a.b / 16) 0) (a.b % 16)
+    bit_read (get_or a.work.now (a.a * a.words + a.b / 16) 0) (a.b % 16)
 
 mul-result : tie.Need-overflow-mul-result
 mul-result c = search rules
@@ -31,8 +31,8 @@ cast-result c = search rules
 shr-result : tie.Need-overflow-shr-result
 shr-result c = search rules
 
-pub has-bit-spec : {M : Type 1} → statement M
-has-bit-spec =
+pub has_bit_spec : {M : Type 1} → statement M
+has_bit_spec =
     tie.close
     (tie.spec
     mul-result

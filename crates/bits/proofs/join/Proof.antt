@@ -2,7 +2,7 @@
 -- measure is the number of elements left. Assumes nothing.
 use borrow.Author.Rules.{rules}
 use Prim.Native.Nat.{◌-◌}
-use Rattle.bits.proofs.Joins.{Joining, join-start, join-turn, join-end}
+use Rattle.bits.proofs.Joins.{Joining, join_start, join_turn, join_end}
 use Rattle.bits.proofs.join.Statement.{statement}
 use Rattle.bits.proofs.join.Tie as tie
 
@@ -13,10 +13,10 @@ abbrev decreases-loop : tie.decreases-loop
 decreases-loop work₀ into from words word₀ work word = words - word
 
 loop-again : tie.Need-loop-preserved invariant-loop decreases-loop
-loop-again c = join-turn c.before.before.before.loop.invariant c.before.before.loop-test.true
+loop-again c = join_turn c.before.before.before.loop.invariant c.before.before.loop-test.true
 
 loop-holds : tie.Need-loop-init invariant-loop decreases-loop
-loop-holds c = join-start c.args.work.now c.args.into c.args.from c.args.words
+loop-holds c = join_start c.args.work.now c.args.into c.args.from c.args.words
 
 add-work : tie.Need-overflow-add-work invariant-loop decreases-loop
 add-work c = search rules
@@ -55,10 +55,10 @@ same_length : tie.Need-same-length invariant-loop decreases-loop
 same_length c = search rules
 
 returns : tie.Need-returns invariant-loop decreases-loop
-returns c = join-end c.before.loop.invariant c.loop-test.false
+returns c = join_end c.before.loop.invariant c.loop-test.false
 
-pub join-spec : {M : Type 1} → statement M
-join-spec =
+pub join_spec : {M : Type 1} → statement M
+join_spec =
     tie.close
     (tie.spec
     invariant-loop

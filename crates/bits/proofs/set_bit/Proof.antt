@@ -6,12 +6,12 @@ use native.Mathlib.Omega.{arith}
 use lib.Bits.{bit_or}
 use lib.ListN.{get_or, set}
 use Rattle.bits.proofs.Numbers.{one_shifted}
-use Rattle.bits.specs.Bits.{with-bit}
+use Rattle.bits.specs.Bits.{with_bit}
 use Rattle.bits.proofs.set_bit.Statement.{statement}
 use Rattle.bits.proofs.set_bit.Tie as tie
 
 returns : tie.Need-returns
-unfolding with-bit
+unfolding with_bit
 returns c =
     let a = c.before.args in
     let at = a.a * a.words + a.b / 16 in
@@ -45,8 +45,8 @@ slice-write-work c = search rules
 same_length : tie.Need-same-length
 same_length c = search rules
 
-pub set-bit-spec : {M : Type 1} → statement M
-set-bit-spec =
+pub set_bit_spec : {M : Type 1} → statement M
+set_bit_spec =
     tie.close
     (tie.spec
     mul_at

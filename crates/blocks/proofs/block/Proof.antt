@@ -1,7 +1,7 @@
 -- `blocks::block` meets its contract: a sweep of the cleared table up to the block's end. Assumes nothing.
 use borrow.Author.Rules.{rules}
 use native.Mathlib.Omega.{arith}
-use Rattle.blocks.proofs.BlockLoops.{table-room, block-laid, block-low, block_room, block-done}
+use Rattle.blocks.proofs.BlockLoops.{table_room, block_laid, block_low, block_room, block_done}
 use Rattle.blocks.proofs.block.Statement.{statement}
 use Rattle.blocks.proofs.block.Tie as tie
 
@@ -16,7 +16,7 @@ returns c =
     let e = k.before.before.before in
     let s = start e in
     let a = s.args in
-    block-done s.pre.0 e.end_of.result e.end_of.ensures k.clear.new.0 k.clear.ensures
+    block_done s.pre.0 e.end_of.result e.end_of.ensures k.clear.new.0 k.clear.ensures
     w.sweep.new.0 a.tails.now a.heads.now w.sweep.new.1.1.1.0
     w.sweep.new.1.1.1.1.0 a.put w.sweep.result w.sweep.ensures
 
@@ -27,7 +27,7 @@ mul-clear : tie.Need-overflow-mul-clear
 mul-clear c = omega (arith, (start c.before.before).requires.0.small)
 
 clear-requires : tie.Need-clear-requires
-clear-requires c κs = table-room (start c.before.before).requires.0
+clear-requires c κs = table_room (start c.before.before).requires.0
 
 sweep-requires : tie.Need-sweep-requires
 sweep-requires c κs =
@@ -35,9 +35,9 @@ sweep-requires c κs =
     let e = k.before.before.before in
     let s = start e in
     let a = s.args in (
-      block-laid s.pre.0 e.end_of.result e.end_of.ensures k.clear.new.0 k.clear.ensures,
+      block_laid s.pre.0 e.end_of.result e.end_of.ensures k.clear.new.0 k.clear.ensures,
       (
-        block-low s.pre.0 e.end_of.result e.end_of.ensures k.clear.new.0 k.clear.ensures,
+        block_low s.pre.0 e.end_of.result e.end_of.ensures k.clear.new.0 k.clear.ensures,
         block_room s.pre.0 e.end_of.result e.end_of.ensures k.clear.new.0 k.clear.ensures
             a.tails.now a.heads.now a.put s.pre.1.1,
       ),

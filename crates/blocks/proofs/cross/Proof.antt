@@ -2,9 +2,9 @@
 -- Assumes nothing.
 use borrow.Author.Rules.{rules}
 use Prim.Native.Nat.{◌-◌}
-use Rattle.memory.proofs.Puts.{put-long}
-use Rattle.blocks.proofs.BlockLoops.{Blocking, blocking-start, blocking-laid, blocking-first, blocking-room}
-use Rattle.blocks.proofs.BlockLoops.{blocking-turn, blocking-end}
+use Rattle.memory.proofs.Puts.{put_long}
+use Rattle.blocks.proofs.BlockLoops.{Blocking, blocking_start, blocking_laid, blocking_first, blocking_room}
+use Rattle.blocks.proofs.BlockLoops.{blocking_turn, blocking_end}
 use Rattle.blocks.proofs.cross.Statement.{statement}
 use Rattle.blocks.proofs.cross.Tie as tie
 
@@ -24,26 +24,26 @@ loop-again c =
     let t = c.before.before.before.before.before.before in
     let d = t.before.before.before.before in
     let l = d.before in
-    blocking-turn (start l).requires.0 l.loop.invariant d.loop-test.true t.block.new.0
+    blocking_turn (start l).requires.0 l.loop.invariant d.loop-test.true t.block.new.0
     t.block.new.1.1.0 t.block.new.1.1.1.0 t.block.result t.block.ensures
 
 returns : tie.Need-returns invariant-loop decreases-loop
-returns c = blocking-end c.before.loop.invariant c.loop-test.false
+returns c = blocking_end c.before.loop.invariant c.loop-test.false
 
 loop-holds : tie.Need-loop-init invariant-loop decreases-loop
 loop-holds c =
     let a = c.before.before.before.args in
-    blocking-start a.work.now a.at a.places a.tails.now a.heads.now a.put
+    blocking_start a.work.now a.at a.places a.tails.now a.heads.now a.put
 
 block-requires : tie.Need-block-requires invariant-loop decreases-loop
 block-requires c κs =
     let d = c.before.before.before in
     let l = d.before in
     let s = start l in (
-      blocking-laid s.pre.0 l.loop.invariant d.loop-test.true,
+      blocking_laid s.pre.0 l.loop.invariant d.loop-test.true,
       (
-        blocking-first s.pre.0 l.loop.invariant d.loop-test.true,
-        blocking-room s.pre.0 l.loop.invariant d.loop-test.true s.pre.1,
+        blocking_first s.pre.0 l.loop.invariant d.loop-test.true,
+        blocking_room s.pre.0 l.loop.invariant d.loop-test.true s.pre.1,
       ),
     )
 
@@ -57,13 +57,13 @@ same_length : tie.Need-same-length invariant-loop decreases-loop
 same_length c = search rules
 
 same-length-2 : tie.Need-same-length-2 invariant-loop decreases-loop
-same-length-2 c = (put-long c.before.loop.invariant.put).0
+same-length-2 c = (put_long c.before.loop.invariant.put).0
 
 same-length-3 : tie.Need-same-length-3 invariant-loop decreases-loop
-same-length-3 c = (put-long c.before.loop.invariant.put).1
+same-length-3 c = (put_long c.before.loop.invariant.put).1
 
-pub cross-spec : {M : Type 1} → statement M
-cross-spec =
+pub cross_spec : {M : Type 1} → statement M
+cross_spec =
     tie.close
     (tie.spec
     invariant-loop

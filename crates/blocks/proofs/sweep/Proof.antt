@@ -2,15 +2,15 @@
 -- Assumes nothing.
 use borrow.Author.Rules.{rules}
 use native.Mathlib.Omega.{arith}
-use Rattle.memory.proofs.Puts.{put-long}
-use Rattle.blocks.proofs.Turns.{Turning-places, places-start, places-laid, places-low, places-room, places-turn}
-use Rattle.blocks.proofs.Turns.{places-end}
+use Rattle.memory.proofs.Puts.{put_long}
+use Rattle.blocks.proofs.Turns.{TurningPlaces, places_start, places_laid, places_low, places_room, places_turn}
+use Rattle.blocks.proofs.Turns.{places_end}
 use Rattle.blocks.proofs.sweep.Statement.{statement}
 use Rattle.blocks.proofs.sweep.Tie as tie
 
 abbrev invariant-loop : tie.invariant-loop
 invariant-loop work₀ b end tails₀ heads₀ put left₀ next₀ work tails heads left next =
-    Turning-places work₀ work b end tails₀ heads₀ tails heads put left next
+    TurningPlaces work₀ work b end tails₀ heads₀ tails heads put left next
 
 abbrev decreases-loop : tie.decreases-loop
 decreases-loop work₀ b end tails₀ heads₀ put left₀ next₀ work tails heads left next = left
@@ -24,16 +24,16 @@ loop-again c =
     let t = c.before.before.before.before.before.before in
     let l = t.before.before.before.before.before in
     let s = start l in
-    places-turn s.pre.0 s.pre.1.0 l.loop.invariant (omega arith) t.turn.new.0
+    places_turn s.pre.0 s.pre.1.0 l.loop.invariant (omega arith) t.turn.new.0
     t.turn.new.1.1.1.0 t.turn.new.1.1.1.1.0 t.turn.result t.turn.ensures
 
 returns : tie.Need-returns invariant-loop decreases-loop
-returns c = places-end c.before.loop.invariant c.loop-test.false
+returns c = places_end c.before.loop.invariant c.loop-test.false
 
 loop-holds : tie.Need-loop-init invariant-loop decreases-loop
 loop-holds c =
     let a = c.before.before.before.args in
-    places-start a.work.now a.b a.end a.tails.now a.heads.now a.put
+    places_start a.work.now a.b a.end a.tails.now a.heads.now a.put
 
 sub-j : tie.Need-overflow-sub-j invariant-loop decreases-loop
 sub-j c = search rules
@@ -42,10 +42,10 @@ turn-requires : tie.Need-turn-requires invariant-loop decreases-loop
 turn-requires c κs =
     let l = c.before.before.before.before in
     let s = start l in (
-      places-laid s.pre.0 s.pre.1.0 l.loop.invariant (omega arith),
+      places_laid s.pre.0 s.pre.1.0 l.loop.invariant (omega arith),
       (
-        places-low s.pre.0 s.pre.1.0 l.loop.invariant (omega arith),
-        places-room s.pre.0 s.pre.1.0 l.loop.invariant (omega arith) s.pre.1.1,
+        places_low s.pre.0 s.pre.1.0 l.loop.invariant (omega arith),
+        places_room s.pre.0 s.pre.1.0 l.loop.invariant (omega arith) s.pre.1.1,
       ),
     )
 
@@ -59,13 +59,13 @@ same_length : tie.Need-same-length invariant-loop decreases-loop
 same_length c = search rules
 
 same-length-2 : tie.Need-same-length-2 invariant-loop decreases-loop
-same-length-2 c = (put-long c.before.loop.invariant.put).0
+same-length-2 c = (put_long c.before.loop.invariant.put).0
 
 same-length-3 : tie.Need-same-length-3 invariant-loop decreases-loop
-same-length-3 c = (put-long c.before.loop.invariant.put).1
+same-length-3 c = (put_long c.before.loop.invariant.put).1
 
-pub sweep-spec : {M : Type 1} → statement M
-sweep-spec =
+pub sweep_spec : {M : Type 1} → statement M
+sweep_spec =
     tie.close
     (tie.spec
     invariant-loop

@@ -5,21 +5,21 @@ use native.Mathlib.Omega.{arith}
 use mathlib.Core.Path.{◌≡◌}
 use Prim.Native.Nat.{◌-◌, ◌≤◌, ◌<◌}
 use lib.ListN.{length}
-use Rattle.rules.specs.Calls.{arcs-of}
-use Rattle.theory.proofs.Ground.ArcLists.{index-arcs}
+use Rattle.rules.specs.Calls.{arcs_of}
+use Rattle.theory.proofs.Ground.ArcLists.{index_arcs}
 use Rattle.borders.specs.Borders.{Marking}
-use Rattle.borders.proofs.Marks.{room-around, marking-none, marking-more}
+use Rattle.borders.proofs.Marks.{room_around, marking_none, marking_more}
 use Rattle.borders.proofs.mark.Statement.{statement}
 use Rattle.borders.proofs.mark.Tie as tie
 
 abbrev invariant-loop : tie.invariant-loop
-invariant-loop at tails heads work₀ i₀ work i = (i ≤ length tails) × Marking at (arcs-of tails heads) i work₀ work
+invariant-loop at tails heads work₀ i₀ work i = (i ≤ length tails) × Marking at (arcs_of tails heads) i work₀ work
 
 abbrev decreases-loop : tie.decreases-loop
 decreases-loop at tails heads work₀ i₀ work i = length tails - i
 
 loop-holds : tie.Need-loop-init invariant-loop decreases-loop
-loop-holds c = (omega arith, marking-none c.before.before.before.requires)
+loop-holds c = (omega arith, marking_none c.before.before.before.requires)
 
 mul-note : tie.Need-overflow-mul-note invariant-loop decreases-loop
 mul-note c = search rules
@@ -41,8 +41,8 @@ note-requires c κs =
     let hs = s.args.heads.now in
     let a : l.loop.i < length ts = omega arith in
     let b : l.loop.i < length hs = omega (arith, s.requires.pairs) in
-    let m = index-arcs ts hs l.loop.i a b in
-    (room-around s.requires.room l.loop.invariant.1.around, (s.requires.between.tails m, s.requires.between.heads m))
+    let m = index_arcs ts hs l.loop.i a b in
+    (room_around s.requires.room l.loop.invariant.1.around, (s.requires.between.tails m, s.requires.between.heads m))
 
 add-i : tie.Need-overflow-add-i invariant-loop decreases-loop
 add-i c = search rules
@@ -59,7 +59,7 @@ loop-again c =
     let hs = s.args.heads.now in
     let a : l.loop.i < length ts = omega arith in
     let b : l.loop.i < length hs = omega (arith, s.requires.pairs) in
-    (omega arith, marking-more ts hs a b s.requires.room l.loop.invariant.1 d.note.ensures)
+    (omega arith, marking_more ts hs a b s.requires.room l.loop.invariant.1 d.note.ensures)
 
 same_length : tie.Need-same-length invariant-loop decreases-loop
 same_length c = search rules

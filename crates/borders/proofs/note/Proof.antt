@@ -6,8 +6,8 @@ use mathlib.Core.Path.{◌≡◌, refl, sym, ◌∙◌}
 use Prim.Native.Nat.{◌<◌}
 use lib.ListN.{length-set}
 use Rattle.memory.specs.Regions.{cell}
-use Rattle.borders.specs.Borders.{Kinds-room}
-use Rattle.borders.proofs.Marks.{noted-same, noted_read}
+use Rattle.borders.specs.Borders.{KindsRoom}
+use Rattle.borders.proofs.Marks.{noted_same, noted_read}
 use Rattle.borders.proofs.note.Statement.{statement}
 use Rattle.borders.proofs.note.Tie as tie
 
@@ -20,7 +20,7 @@ abbrev begun : Names → tie.Start
 begun c = c.before.before.before.before.before.before.before
 
 -- the memory has room
-room : (c : Names) → Kinds-room (begun c).args.at (begun c).args.work.now
+room : (c : Names) → KindsRoom (begun c).args.at (begun c).args.work.now
 room c = (begun c).requires.0
 
 -- the tail's name was read
@@ -29,16 +29,16 @@ tail_name : (c : Names) →
 tail_name c = rw c.before.before.before.before.before.wide.ensures at c.before.before.wide3.ensures
 
 -- the head's name was read
-head-name : (c : Names) →
+head_name : (c : Names) →
     let a = (begun c).args in c.wide4.result ≡ cell a.work.now a.at.names a.head
-head-name c = rw c.before.before.before.before.wide2.ensures at c.wide4.ensures
+head_name c = rw c.before.before.before.before.wide2.ensures at c.wide4.ensures
 
 -- both names are zones
 low : (c : Names) →
     let n = (begun c).args.at.zones in (c.before.before.wide3.result < n) × (c.wide4.result < n)
 low c = (
   omega (arith, tail_name c, (room c).zone (begun c).args.tail (begun c).requires.1.0),
-  omega (arith, head-name c, (room c).zone (begun c).args.head (begun c).requires.1.1),
+  omega (arith, head_name c, (room c).zone (begun c).args.head (begun c).requires.1.1),
 )
 
 wide-requires : tie.Need-wide-requires
@@ -72,7 +72,7 @@ wide-requires-4 : tie.Need-wide-requires-4
 wide-requires-4 c κs = search rules
 
 returns : tie.Need-returns
-returns c = noted-same _ _ (sym (tail_name c.before) ∙ c.if1.true ∙ head-name c.before)
+returns c = noted_same _ _ (sym (tail_name c.before) ∙ c.if1.true ∙ head_name c.before)
 
 add-work : tie.Need-overflow-add-work
 add-work c = omega (arith, low c.before, room c.before)
@@ -99,10 +99,10 @@ returns-2 : tie.Need-returns-2
 returns-2 c =
     let d = c.before in
     let s = begun d in
-    noted_read (room d) s.pre.1.0 s.pre.1.1 (tail_name d) (head-name d) c.if1.false refl
+    noted_read (room d) s.pre.1.0 s.pre.1.1 (tail_name d) (head_name d) c.if1.false refl
 
-pub note-spec : {M : Type 1} → statement M
-note-spec =
+pub note_spec : {M : Type 1} → statement M
+note_spec =
     tie.close
     (tie.spec
     wide-requires

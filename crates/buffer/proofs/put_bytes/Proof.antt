@@ -8,7 +8,7 @@ use native.Mathlib.Omega.{arith}
 use borrow.Author.Rules.{rules}
 use lib.ListN.{length, length-set}
 use lib.Seq.{paste, paste-zero, paste-suc}
-use Rattle.buffer.proofs.Puts.{put-paste}
+use Rattle.buffer.proofs.Puts.{put_paste}
 use Rattle.buffer.proofs.put_bytes.Statement.{statement}
 use Rattle.buffer.proofs.put_bytes.Tie as tie
 
@@ -61,11 +61,11 @@ returns c =
     let done : l.i ≡ length a.s.now = le_antisymm l.invariant.0 c.loop-test.false in
     record {
       stop = refl;
-      buffer = l.invariant.1 ∙ rw (done, put-paste a.out.now a.at a.s.now);
+      buffer = l.invariant.1 ∙ rw (done, put_paste a.out.now a.at a.s.now);
     }
 
-pub put-bytes-spec : {M : Type 1} → statement M
-put-bytes-spec =
+pub put_bytes_spec : {M : Type 1} → statement M
+put_bytes_spec =
     tie.close
     (tie.spec
     invariant-loop

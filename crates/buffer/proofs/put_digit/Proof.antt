@@ -4,8 +4,8 @@ use Prim.Native.Nat.{◌+◌}
 use mathlib.Core.Path.{refl}
 use native.Mathlib.Omega.{arith}
 use borrow.Author.Rules.{rules}
-use Rattle.buffer.proofs.Decimal.{decimal-low}
-use Rattle.buffer.proofs.Puts.{text-put-one}
+use Rattle.buffer.proofs.Decimal.{decimal_low}
+use Rattle.buffer.proofs.Puts.{text_put_one}
 use Rattle.buffer.proofs.put_digit.Statement.{statement}
 use Rattle.buffer.proofs.put_digit.Tie as tie
 
@@ -17,7 +17,7 @@ add-out c = search rules
 
 slice-write-out : tie.Need-slice-write-out
 slice-write-out c =
-    let room = rw (decimal-low c.args.digit c.requires.0) at c.requires.1 in
+    let room = rw (decimal_low c.args.digit c.requires.0) at c.requires.1 in
     omega arith
 
 add-result : tie.Need-overflow-add-result
@@ -29,8 +29,8 @@ same_length c = search rules
 returns : tie.Need-returns
 returns c =
     let a = c.args in
-    rw (decimal-low a.digit c.requires.0)
-    (record { stop = refl; buffer = text-put-one a.out.now a.at (48 + a.digit) (slice-write-out c) })
+    rw (decimal_low a.digit c.requires.0)
+    (record { stop = refl; buffer = text_put_one a.out.now a.at (48 + a.digit) (slice-write-out c) })
 
-pub put-digit-spec : {M : Type 1} → statement M
-put-digit-spec = tie.close (tie.spec cast-out add-out slice-write-out add-result same_length returns)
+pub put_digit_spec : {M : Type 1} → statement M
+put_digit_spec = tie.close (tie.spec cast-out add-out slice-write-out add-result same_length returns)

@@ -2,7 +2,7 @@
 -- Assumes nothing.
 use Rattle.rules.specs.Text.{decimal}
 use Rattle.buffer.specs.Words.{labelled}
-use Rattle.buffer.proofs.Puts.{room-first, room-rest, written_then}
+use Rattle.buffer.proofs.Puts.{room_first, room_rest, written_then}
 use borrow.Author.Rules.{rules}
 use Rattle.buffer.proofs.put_labelled.Statement.{statement}
 use Rattle.buffer.proofs.put_labelled.Tie as tie
@@ -11,13 +11,13 @@ put-bytes-requires : tie.Need-put-bytes-requires
 unfolding labelled
 put-bytes-requires c κs =
     let s = c.before.before.before in
-    room-first (decimal s.args.n) s.requires
+    room_first (decimal s.args.n) s.requires
 
 put-number-requires : tie.Need-put-number-requires
 unfolding labelled
 put-number-requires c κs =
     let w = c.before.before.before in
-    room-rest w.before.before.before.before.requires w.put-bytes.ensures
+    room_rest w.before.before.before.before.requires w.put-bytes.ensures
 
 same_length : tie.Need-same-length
 same_length c = search rules
@@ -29,5 +29,5 @@ returns c =
     written_then w.before.before.before.before.requires w.put-bytes.ensures
     c.before.before.put-number.ensures
 
-pub put-labelled-spec : {M : Type 1} → statement M
-put-labelled-spec = tie.close (tie.spec put-bytes-requires put-number-requires same_length returns)
+pub put_labelled_spec : {M : Type 1} → statement M
+put_labelled_spec = tie.close (tie.spec put-bytes-requires put-number-requires same_length returns)

@@ -1,6 +1,6 @@
 -- `linkplan_plan` meets its promise: what PLAN answers is put, and the lists are as PLAN leaves them. Assumes nothing.
 use borrow.Author.Rules.{rules}
-use Rattle.rules.specs.Answers.{plan-told}
+use Rattle.rules.specs.Answers.{plan_told}
 use Rattle.clib.proofs.linkplan_plan.Statement.{statement}
 use Rattle.clib.proofs.linkplan_plan.Tie as tie
 
@@ -25,10 +25,10 @@ same-length-4 c = search rules
 returns : tie.Need-returns
 returns c =
     let called = c.before.before.before.before.before.before.before.before.before.before in
-    record { told = plan-told called.plan.result; kept = called.plan.ensures; answer = c.put-plan.ensures }
+    record { told = plan_told called.plan.result; kept = called.plan.ensures; answer = c.put-plan.ensures }
 
-pub linkplan-plan-spec : {M : Type 1} → statement M
-linkplan-plan-spec =
+pub linkplan_plan_spec : {M : Type 1} → statement M
+linkplan_plan_spec =
     tie.close
     (tie.spec
     plan-requires

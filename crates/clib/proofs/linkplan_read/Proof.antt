@@ -21,8 +21,8 @@ returns c =
     let called = c.before.before.before.before.before.before in
     record { told = read_told called.read.result; kept = called.read.ensures; answer = c.put-read.ensures }
 
-pub linkplan-read-spec : {M : Type 1} → statement M
-linkplan-read-spec =
+pub linkplan_read_spec : {M : Type 1} → statement M
+linkplan_read_spec =
     tie.close
     (tie.spec
     read-requires

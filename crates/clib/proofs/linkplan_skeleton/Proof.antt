@@ -1,7 +1,7 @@
 -- `linkplan_skeleton` meets its promise: what SKELETON answers is put, and the lists are as SKELETON leaves them.
 -- Assumes nothing.
 use borrow.Author.Rules.{rules}
-use Rattle.rules.specs.Answers.{skeleton-told}
+use Rattle.rules.specs.Answers.{skeleton_told}
 use Rattle.clib.proofs.linkplan_skeleton.Statement.{statement}
 use Rattle.clib.proofs.linkplan_skeleton.Tie as tie
 
@@ -24,13 +24,13 @@ returns : tie.Need-returns
 returns c =
     let called = c.before.before.before.before.before.before.before.before in
     record {
-      told = skeleton-told called.skeleton.result;
+      told = skeleton_told called.skeleton.result;
       kept = called.skeleton.ensures;
       answer = c.put-skeleton.ensures;
     }
 
-pub linkplan-skeleton-spec : {M : Type 1} → statement M
-linkplan-skeleton-spec =
+pub linkplan_skeleton_spec : {M : Type 1} → statement M
+linkplan_skeleton_spec =
     tie.close
     (tie.spec
     skeleton-requires

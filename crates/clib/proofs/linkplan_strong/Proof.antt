@@ -1,7 +1,7 @@
 -- `linkplan_strong` meets its promise: what STRONG answers is put, and the work memory is as STRONG leaves it.
 -- Assumes nothing.
 use borrow.Author.Rules.{rules}
-use Rattle.rules.specs.Answers.{strong-told}
+use Rattle.rules.specs.Answers.{strong_told}
 use Rattle.clib.proofs.linkplan_strong.Statement.{statement}
 use Rattle.clib.proofs.linkplan_strong.Tie as tie
 
@@ -18,13 +18,13 @@ returns : tie.Need-returns
 returns c =
     let called = c.before.before.before.before in
     record {
-      told = strong-told called.strong.result;
+      told = strong_told called.strong.result;
       kept = called.strong.ensures;
       answer = c.put-strong.ensures;
     }
 
-pub linkplan-strong-spec : {M : Type 1} → statement M
-linkplan-strong-spec =
+pub linkplan_strong_spec : {M : Type 1} → statement M
+linkplan_strong_spec =
     tie.close
     (tie.spec
     strong-requires

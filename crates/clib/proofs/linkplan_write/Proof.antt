@@ -1,6 +1,6 @@
 -- `linkplan_write` meets its promise: what WRITE answers is put, and the file is as WRITE leaves it. Assumes nothing.
 use borrow.Author.Rules.{rules}
-use Rattle.rules.specs.Answers.{write-told}
+use Rattle.rules.specs.Answers.{write_told}
 use Rattle.clib.proofs.linkplan_write.Statement.{statement}
 use Rattle.clib.proofs.linkplan_write.Tie as tie
 
@@ -16,10 +16,10 @@ same_length c = search rules
 returns : tie.Need-returns
 returns c =
     let called = c.before.before.before.before in
-    record { told = write-told called.write.result; kept = called.write.ensures; answer = c.put-write.ensures }
+    record { told = write_told called.write.result; kept = called.write.ensures; answer = c.put-write.ensures }
 
-pub linkplan-write-spec : {M : Type 1} → statement M
-linkplan-write-spec =
+pub linkplan_write_spec : {M : Type 1} → statement M
+linkplan_write_spec =
     tie.close
     (tie.spec
     write-requires

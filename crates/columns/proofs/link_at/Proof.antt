@@ -37,8 +37,8 @@ why-of-requires c κs = search rules
 returns : tie.Need-returns
 returns c = rw c.why-of.ensures refl
 
-pub link-at-spec : {M : Type 1} → statement M
-link-at-spec =
+pub link_at_spec : {M : Type 1} → statement M
+link_at_spec =
     tie.close
     (tie.spec
     add-from

@@ -13,5 +13,5 @@ returns-2 c = simp (one_not_zero _ c.match.keys2, eq-eqb _ 1 c.match.keys2)
 returns-3 : tie.Need-returns-3
 returns-3 c = simp (ne_eqb _ 0 c.match.rest.0.1, ne_eqb _ 1 c.match.rest.1)
 
-pub why-of-spec : {M : Type 1} → statement M
-why-of-spec = tie.close (tie.spec returns returns-2 returns-3)
+pub why_of_spec : {M : Type 1} → statement M
+why_of_spec = tie.close (tie.spec returns returns-2 returns-3)

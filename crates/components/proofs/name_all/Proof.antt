@@ -8,8 +8,8 @@ use lib.ListN.{length}
 use Rattle.workmap.specs.declared.Map.{Map}
 use Rattle.workmap.specs.Map.{rows_at, map_of}
 use Rattle.components.specs.Components.{Lent}
-use Rattle.components.proofs.Passes.{for-finish, seen-clear, for-collect}
-use Rattle.components.proofs.Passes.{for-naming, for-listing, done}
+use Rattle.components.proofs.Passes.{for_finish, seen_clear, for_collect}
+use Rattle.components.proofs.Passes.{for_naming, for_listing, done}
 use Rattle.components.proofs.name_all.Statement.{statement}
 use Rattle.components.proofs.name_all.Tie as tie
 
@@ -21,7 +21,7 @@ at_map I = rw I.ready.map at I
 finish-requires : tie.Need-finish-requires
 finish-requires c κs =
     let I = c.before.before.before.requires.1.1 in
-    rw I.ready.map (for-finish (at_map I), seen-clear (at_map I))
+    rw I.ready.map (for_finish (at_map I), seen_clear (at_map I))
 
 -- What `collect` asks for is so.
 collect-requires : tie.Need-collect-requires
@@ -29,7 +29,7 @@ collect-requires c κs =
     let f = c.before.before.before in
     let I = f.before.before.before.before.requires.1.1 in
     let F = rw I.ready.map at f.finish.ensures in
-    rw I.ready.map (rows_at _, for-collect (at_map I) F.0 F.1)
+    rw I.ready.map (rows_at _, for_collect (at_map I) F.0 F.1)
 
 -- What `name_zones` asks for is so.
 name-zones-requires : tie.Need-name-zones-requires
@@ -39,7 +39,7 @@ name-zones-requires c κs =
     let I = f.before.before.before.before.requires.1.1 in
     let F = rw I.ready.map at f.finish.ensures in
     let C = rw I.ready.map at d.collect.ensures in
-    rw I.ready.map (for-naming (at_map I) F.0 F.1 (C (rows_at _) (for-collect (at_map I) F.0 F.1)))
+    rw I.ready.map (for_naming (at_map I) F.0 F.1 (C (rows_at _) (for_collect (at_map I) F.0 F.1)))
 
 -- What `list_names` asks for is so.
 list-names-requires : tie.Need-list-names-requires
@@ -52,7 +52,7 @@ list-names-requires c κs =
     let C = rw I.ready.map at d.collect.ensures in
     let N = rw I.ready.map at e.name-zones.ensures in
     rw I.ready.map
-    (for-listing (at_map I) F.0 F.1 (C (rows_at _) (for-collect (at_map I) F.0 F.1)) N)
+    (for_listing (at_map I) F.0 F.1 (C (rows_at _) (for_collect (at_map I) F.0 F.1)) N)
 
 -- The memory keeps its length.
 same_length : tie.Need-same-length
@@ -70,11 +70,11 @@ returns c =
     let C = rw I.ready.map at d.collect.ensures in
     let N = rw I.ready.map at e.name-zones.ensures in
     let L = rw I.ready.map at y.list-names.ensures in
-    rw I.ready.map (done (at_map I) F.0 F.1 (C (rows_at _) (for-collect (at_map I) F.0 F.1)) N L)
+    rw I.ready.map (done (at_map I) F.0 F.1 (C (rows_at _) (for_collect (at_map I) F.0 F.1)) N L)
 
 -- The function meets its contract.
-pub name-all-spec : {M : Type 1} → statement M
-name-all-spec =
+pub name_all_spec : {M : Type 1} → statement M
+name_all_spec =
     tie.close
     (tie.spec
     finish-requires

@@ -1,6 +1,6 @@
 -- `connect::connect` meets its contract: the pairing leaves the network's ordering, and the links of it are put.
 -- Assumes nothing.
-use Rattle.connect.proofs.Connecting.{pairable, pairs-low, linkable, connected}
+use Rattle.connect.proofs.Connecting.{pairable, pairs_low, linkable, connected}
 use borrow.Author.Rules.{rules}
 use Rattle.connect.proofs.connect.Statement.{statement}
 use Rattle.connect.proofs.connect.Tie as tie
@@ -24,7 +24,7 @@ counts-of-requires c κs =
     let d = c.before.before in
     let s = start d in
     let a = s.args in
-    pairs-low a.work.now a.side a.s a.t a.q s.pre.0 s.pre.1 d.pair.new.0
+    pairs_low a.work.now a.side a.s a.t a.q s.pre.0 s.pre.1 d.pair.new.0
     d.pair.result d.pair.ensures
 
 put-links-requires : tie.Need-put-links-requires
@@ -49,7 +49,7 @@ returns c N C =
     d.pair.ensures e.Counts-of.result e.Counts-of.ensures f.put-links.new.0 f.put-links.result
     f.put-links.ensures
 
-pub connect-spec : {M : Type 1} → statement M
-connect-spec =
+pub connect_spec : {M : Type 1} → statement M
+connect_spec =
     tie.close
     (tie.spec pair-requires counts-of-requires put-links-requires same_length returns)

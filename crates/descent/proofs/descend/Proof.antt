@@ -9,12 +9,12 @@ use Prim.Native.Nat.{ℕ, ◌+◌, ◌≤◌, ◌<◌}
 use mathlib.Core.Path.{refl}
 use mathlib.Core.List.{List}
 use lib.ListN.{length, get_or, length-set}
-use Rattle.arranged.specs.Marks.{First-in}
+use Rattle.arranged.specs.Marks.{FirstIn}
 use Rattle.arranged.specs.declared.Found.TheVariants.{At}
 use Rattle.descent.specs.Memory.{Ready, Went}
-use Rattle.descent.proofs.Keeping.{kept-none, order-kept-then, ready-kept, spans}
-use Rattle.descent.proofs.Down.{z-zone, a-le, b-fits, b-few, z-heads, z-full, h-zone, room}
-use Rattle.descent.proofs.Down.{turn-kept, turn-state}
+use Rattle.descent.proofs.Keeping.{kept_none, order_kept_then, ready_kept, spans}
+use Rattle.descent.proofs.Down.{z_zone, a_le, b_fits, b_few, z_heads, z_full, h_zone, room}
+use Rattle.descent.proofs.Down.{turn_kept, turn_state}
 use Rattle.descent.proofs.descend.Statement.{statement}
 use Rattle.descent.proofs.descend.Tie as tie
 
@@ -48,28 +48,28 @@ abbrev Met : Type 0
 Met = tie.After-i invariant-loop decreases-loop
 
 -- the turn in which the top's zone is read
-abbrev top-turn : Top → Turn
-top-turn c = c.before.before
+abbrev top_turn : Top → Turn
+top_turn c = c.before.before
 
 -- the turn in which its next place is read
-abbrev next-turn : Next → Turn
-next-turn c = top-turn c.before.before
+abbrev next_turn : Next → Turn
+next_turn c = top_turn c.before.before
 
 -- the turn in which its row's end is read
-abbrev end-turn : End → Turn
-end-turn c = next-turn c.before.before
+abbrev end_turn : End → Turn
+end_turn c = next_turn c.before.before
 
 -- the row in which the step found a zone
-abbrev met-end : Met → End
-met-end c = c.before.before.before.before
+abbrev met_end : Met → End
+met_end c = c.before.before.before.before
 
 -- the top where the step found a zone
-abbrev met-top : Met → Top
-met-top c = (met-end c).before.before.before.before
+abbrev met_top : Met → Top
+met_top c = (met_end c).before.before.before.before
 
 -- the turn in which the step found a zone
-abbrev met-turn : Met → Turn
-met-turn c = end-turn (met-end c)
+abbrev met_turn : Met → Turn
+met_turn c = end_turn (met_end c)
 
 -- the memory at the beginning of a turn
 abbrev memory : Turn → List ℕ
@@ -80,92 +80,92 @@ abbrev rows_at : Turn → ℕ
 rows_at c = c.before.before.args.rows.rows
 
 -- the place of the top's row at which the step found a zone
-abbrev met-place : Met → ℕ
-met-place c = rows_at (met-turn c) + (met-end c).before.before.wide2.result + c.i.given.0.0
+abbrev met_place : Met → ℕ
+met_place c = rows_at (met_turn c) + (met_end c).before.before.wide2.result + c.i.given.0.0
 
 -- the end of the top's row, where the step found a zone
-abbrev met-stop : Met → ℕ
-met-stop c = rows_at (met-turn c) + (met-end c).wide3.result
+abbrev met_stop : Met → ℕ
+met_stop c = rows_at (met_turn c) + (met_end c).wide3.result
 
 -- The memory is ready at the beginning of a turn.
 ready : (c : Turn) → let a = c.before.before.args in
     Ready (memory c) a.rows a.at
-ready c = ready-kept c.before.before.requires.0 c.loop.invariant.kept
+ready c = ready_kept c.before.before.requires.0 c.loop.invariant.kept
 
 -- The top is a zone.
-zone : (c : Top) → c.wide.result < (top-turn c).before.before.args.rows.zones
+zone : (c : Top) → c.wide.result < (top_turn c).before.before.args.rows.zones
 zone c =
-    let l = top-turn c in
-    z-zone (ready l) l.loop.inv.state l.loop.inv.top c.wide.ensures refl refl
+    let l = top_turn c in
+    z_zone (ready l) l.loop.inv.state l.loop.inv.top c.wide.ensures refl refl
 
 -- The top's next place is inside the memory.
-next-inside : (c : Next) → rows_at (next-turn c) + c.wide2.result ≤ length (memory (next-turn c))
-next-inside c =
+next_inside : (c : Next) → rows_at (next_turn c) + c.wide2.result ≤ length (memory (next_turn c))
+next_inside c =
     let u = c.before.before in
-    let l = next-turn c in
-    let x = a-le (ready l) l.loop.inv.state l.loop.inv.top u.wide.ensures c.wide2.ensures refl in
-    let y = b-fits (ready l) l.loop.inv.state l.loop.inv.top u.wide.ensures c.wide2.ensures refl in
+    let l = next_turn c in
+    let x = a_le (ready l) l.loop.inv.state l.loop.inv.top u.wide.ensures c.wide2.ensures refl in
+    let y = b_fits (ready l) l.loop.inv.state l.loop.inv.top u.wide.ensures c.wide2.ensures refl in
     omega arith
 
 -- The top's next place is not behind its row's end.
-end-order : (c : End) → c.before.before.wide2.result ≤ c.wide3.result
-end-order c =
+end_order : (c : End) → c.before.before.wide2.result ≤ c.wide3.result
+end_order c =
     let v = c.before.before in
     let u = v.before.before in
-    let l = end-turn c in
-    a-le (ready l) l.loop.inv.state l.loop.inv.top u.wide.ensures v.wide2.ensures c.wide3.ensures
+    let l = end_turn c in
+    a_le (ready l) l.loop.inv.state l.loop.inv.top u.wide.ensures v.wide2.ensures c.wide3.ensures
 
 -- The top's row is inside the memory.
-end-inside : (c : End) → rows_at (end-turn c) + c.wide3.result ≤ length (memory (end-turn c))
-end-inside c =
+end_inside : (c : End) → rows_at (end_turn c) + c.wide3.result ≤ length (memory (end_turn c))
+end_inside c =
     let v = c.before.before in
     let u = v.before.before in
-    let l = end-turn c in
-    b-fits (ready l) l.loop.inv.state l.loop.inv.top
+    let l = end_turn c in
+    b_fits (ready l) l.loop.inv.state l.loop.inv.top
     u.wide.ensures v.wide2.ensures c.wide3.ensures
 
 -- The top's row ends at a small number.
-end-few : (c : End) → c.wide3.result ≤ 4096
-end-few c =
+end_few : (c : End) → c.wide3.result ≤ 4096
+end_few c =
     let v = c.before.before in
     let u = v.before.before in
-    let l = end-turn c in
-    b-few (ready l) l.loop.inv.state l.loop.inv.top
+    let l = end_turn c in
+    b_few (ready l) l.loop.inv.state l.loop.inv.top
     u.wide.ensures v.wide2.ensures c.wide3.ensures
 
 -- What the step says where it found a zone.
-found : (c : Met) → First-in (memory (met-turn c)) (rows_at (met-turn c) + (met-end c).before.before.wide2.result)
-    (met-stop c) (met-turn c).before.before.args.at.seen (At c.i.given.0.0)
+found : (c : Met) → FirstIn (memory (met_turn c)) (rows_at (met_turn c) + (met_end c).before.before.wide2.result)
+    (met_stop c) (met_turn c).before.before.args.at.seen (At c.i.given.0.0)
 found c = rw c.i.given.1 at c.before.before.step.ensures
 
 -- What the step found is a zone.
-met-zone : (c : Met) → get_or (memory (met-turn c)) (met-place c) 0 < (met-turn c).before.before.args.rows.zones
-met-zone c =
-    let x = met-end c in
+met_zone : (c : Met) → get_or (memory (met_turn c)) (met_place c) 0 < (met_turn c).before.before.args.rows.zones
+met_zone c =
+    let x = met_end c in
     let v = x.before.before in
     let u = v.before.before in
-    let l = met-turn c in
-    h-zone (ready l) l.loop.inv.state l.loop.inv.top
+    let l = met_turn c in
+    h_zone (ready l) l.loop.inv.state l.loop.inv.top
     u.wide.ensures v.wide2.ensures x.wide3.ensures c.i.given.0.0 refl (found c) refl
 
 -- There is room for it on the stack.
-met-room : (c : Met) → (met-turn c).before.before.args.lo < (met-turn c).loop.hi
-met-room c =
-    let x = met-end c in
+met_room : (c : Met) → (met_turn c).before.before.args.lo < (met_turn c).loop.hi
+met_room c =
+    let x = met_end c in
     let v = x.before.before in
     let u = v.before.before in
-    let l = met-turn c in
+    let l = met_turn c in
     room (ready l) l.loop.inv.state l.loop.inv.top
     u.wide.ensures v.wide2.ensures x.wide3.ensures c.i.given.0.0 refl (found c) refl
 
 -- Its place is inside the memory, and so is its row, which is short.
-inside : (c : Met) → (met-place c < met-stop c)
-    × ((met-stop c ≤ length (memory (met-turn c))) × ((met-end c).wide3.result ≤ 4096))
-inside c = ((found c).0, (end-inside (met-end c), end-few (met-end c)))
+inside : (c : Met) → (met_place c < met_stop c)
+    × ((met_stop c ≤ length (memory (met_turn c))) × ((met_end c).wide3.result ≤ 4096))
+inside c = ((found c).0, (end_inside (met_end c), end_few (met_end c)))
 
 -- The invariant holds where the loop begins.
 loop-holds : tie.Need-loop-init invariant-loop decreases-loop
-loop-holds c = record { kept = kept-none _ _ _; state = c.before.requires.1.1; top = c.before.requires.1.0 }
+loop-holds c = record { kept = kept_none _ _ _; state = c.before.requires.1.1; top = c.before.requires.1.0 }
 
 -- Sums and casts keep in range, and places are inside the memory.
 add_wide : tie.Need-overflow-add-wide invariant-loop decreases-loop
@@ -197,7 +197,7 @@ wide-requires-2 c κs = search rules
 
 -- Sums and casts keep in range, and places are inside the memory.
 add_a : tie.Need-overflow-add-a invariant-loop decreases-loop
-add_a c = omega (arith, next-inside c)
+add_a c = omega (arith, next_inside c)
 
 add-wide-3 : tie.Need-overflow-add-wide-3 invariant-loop decreases-loop
 add-wide-3 c = omega (arith, spans (ready c.before.before.before.before), zone c.before.before)
@@ -218,7 +218,7 @@ wide-requires-3 c κs = search rules
 
 -- Sums and casts keep in range, and places are inside the memory.
 add-b : tie.Need-overflow-add-b invariant-loop decreases-loop
-add-b c = omega (arith, end-order c, end-inside c, end-few c)
+add-b c = omega (arith, end_order c, end_inside c, end_few c)
 
 -- What `step` asks for is so.
 step-requires : tie.Need-step-requires invariant-loop decreases-loop
@@ -226,9 +226,9 @@ step-requires c κs =
     let y = c.before in
     let v = y.before.before in
     let u = v.before.before in
-    let l = end-turn y in (
-      (omega (arith, end-order y), (end-inside y, (spans (ready l)).0)),
-      z-heads (ready l) l.loop.inv.state l.loop.inv.top
+    let l = end_turn y in (
+      (omega (arith, end_order y), (end_inside y, (spans (ready l)).0)),
+      z_heads (ready l) l.loop.inv.state l.loop.inv.top
           u.wide.ensures v.wide2.ensures y.wide3.ensures,
     )
 
@@ -247,9 +247,9 @@ returns c =
     let y = s.before.before in
     let v = y.before.before in
     let u = v.before.before in
-    let l = end-turn y in (
+    let l = end_turn y in (
       l.loop.inv,
-      z-full (ready l) l.loop.inv.state l.loop.inv.top u.wide.ensures v.wide2.ensures
+      z_full (ready l) l.loop.inv.state l.loop.inv.top u.wide.ensures v.wide2.ensures
           y.wide3.ensures (rw c.enum_told.given.1 at s.step.ensures),
     )
 
@@ -280,13 +280,13 @@ cast-work : tie.Need-overflow-cast-work invariant-loop decreases-loop
 cast-work c = omega (arith, inside c.before.before)
 
 add-work-3 : tie.Need-overflow-add-work-3 invariant-loop decreases-loop
-add-work-3 c = omega (arith, spans (ready (met-turn c.before.before)), zone (met-top c.before.before))
+add-work-3 c = omega (arith, spans (ready (met_turn c.before.before)), zone (met_top c.before.before))
 
 mul-work : tie.Need-overflow-mul-work invariant-loop decreases-loop
-mul-work c = omega (arith, spans (ready (met-turn c.before.before)), zone (met-top c.before.before))
+mul-work c = omega (arith, spans (ready (met_turn c.before.before)), zone (met_top c.before.before))
 
 slice-write-work : tie.Need-slice-write-work invariant-loop decreases-loop
-slice-write-work c = omega (arith, spans (ready (met-turn c.before.before)), zone (met-top c.before.before))
+slice-write-work c = omega (arith, spans (ready (met_turn c.before.before)), zone (met_top c.before.before))
 
 -- What `wide` asks for is so.
 wide-requires-4 : tie.Need-wide-requires-4 invariant-loop decreases-loop
@@ -296,7 +296,7 @@ wide-requires-4 c κs = search rules
 add-m : tie.Need-overflow-add-m invariant-loop decreases-loop
 add-m c =
     let d = c.before.before.before in
-    omega (arith, spans (ready (met-turn d)), met-zone d, c.wide4.ensures)
+    omega (arith, spans (ready (met_turn d)), met_zone d, c.wide4.ensures)
 
 sub-work-2 : tie.Need-overflow-sub-work-2 invariant-loop decreases-loop
 sub-work-2 c = search rules
@@ -310,20 +310,20 @@ add-work-5 c = search rules
 cast-work-2 : tie.Need-overflow-cast-work-2 invariant-loop decreases-loop
 cast-work-2 c =
     let d = c.before.before.before in
-    omega (arith, (ready (met-turn d)).small, met-room d, (met-turn d).loop.invariant.top)
+    omega (arith, (ready (met_turn d)).small, met_room d, (met_turn d).loop.invariant.top)
 
 mul-work-2 : tie.Need-overflow-mul-work-2 invariant-loop decreases-loop
 mul-work-2 c =
     let d = c.before.before.before in
-    omega (arith, spans (ready (met-turn d)), met-zone d, c.wide4.ensures)
+    omega (arith, spans (ready (met_turn d)), met_zone d, c.wide4.ensures)
 
 slice-write-work-2 : tie.Need-slice-write-work-2 invariant-loop decreases-loop
 slice-write-work-2 c =
     let d = c.before.before.before in
-    simp length-set (omega (arith, spans (ready (met-turn d)), met-zone d, c.wide4.ensures))
+    simp length-set (omega (arith, spans (ready (met_turn d)), met_zone d, c.wide4.ensures))
 
 sub-hi : tie.Need-overflow-sub-hi invariant-loop decreases-loop
-sub-hi c = omega (arith, met-room c.before.before.before)
+sub-hi c = omega (arith, met_room c.before.before.before)
 
 add-work-6 : tie.Need-overflow-add-work-6 invariant-loop decreases-loop
 add-work-6 c = search rules
@@ -334,33 +334,33 @@ mul-work-3 c = search rules
 slice-write-work-3 : tie.Need-slice-write-work-3 invariant-loop decreases-loop
 slice-write-work-3 c =
     let d = c.before.before.before in
-    simp length-set (omega (arith, spans (ready (met-turn d)), met-room d, (met-turn d).loop.invariant.top))
+    simp length-set (omega (arith, spans (ready (met_turn d)), met_room d, (met_turn d).loop.invariant.top))
 
 -- Every turn makes the measure smaller.
 loop-less : tie.Need-loop-smaller invariant-loop decreases-loop
-loop-less c = omega (arith, met-room c.before.before.before)
+loop-less c = omega (arith, met_room c.before.before.before)
 
 -- Every turn keeps the invariant.
 loop-again : tie.Need-loop-preserved invariant-loop decreases-loop
 loop-again c =
     let d = c.before.before.before in
-    let x = met-end d in
+    let x = met_end d in
     let v = x.before.before in
     let u = v.before.before in
-    let l = met-turn d in
+    let l = met_turn d in
     record {
-      kept = order-kept-then l.loop.inv.kept (turn-kept (ready l) l.loop.inv.state l.loop.inv.top
+      kept = order_kept_then l.loop.inv.kept (turn_kept (ready l) l.loop.inv.state l.loop.inv.top
           u.wide.ensures v.wide2.ensures x.wide3.ensures d.i.given.0.0 refl (found d)
           (rw c.wide4.ensures));
-      state = turn-state (ready l) l.loop.inv.state l.loop.inv.top
+      state = turn_state (ready l) l.loop.inv.state l.loop.inv.top
           u.wide.ensures v.wide2.ensures x.wide3.ensures d.i.given.0.0 refl (found d)
           (rw c.wide4.ensures);
       top = omega (arith, l.loop.inv.top);
     }
 
 -- The function meets its contract.
-pub descend-spec : {M : Type 1} → statement M
-descend-spec =
+pub descend_spec : {M : Type 1} → statement M
+descend_spec =
     tie.close
     (tie.spec
     invariant-loop decreases-loop loop-holds add_wide mul_wide slice-read-wide wide-requires add-wide-2 mul-wide-2

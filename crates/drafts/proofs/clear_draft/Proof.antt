@@ -6,8 +6,8 @@ use native.Mathlib.Omega.{arith}
 use Prim.Native.Nat.{ℕ, ◌≤◌}
 use lib.ListN.{length}
 use Rattle.rules.specs.Lists.{cleared}
-use Rattle.rules.specs.Calls.{asked-work}
-use Rattle.drafts.proofs.Answering.{finish-refused, finish-asks, finish-done}
+use Rattle.rules.specs.Calls.{asked_work}
+use Rattle.drafts.proofs.Answering.{finish_refused, finish_asks, finish_done}
 use Rattle.drafts.proofs.clear_draft.Statement.{statement}
 use Rattle.drafts.proofs.clear_draft.Tie as tie
 
@@ -18,11 +18,11 @@ Here = tie.After-enum-told
 -- what clearing asks then
 asks : (c : Here) →
     let a = c.before.before.before.args in
-    (a.zones ≤ 1024) × ((a.arcs ≤ 4096) × (asked-work a.zones a.arcs ≤ length a.work.now))
+    (a.zones ≤ 1024) × ((a.arcs ≤ 4096) × (asked_work a.zones a.arcs ≤ length a.work.now))
 asks c =
     let s = c.before.before.before in
     let a = s.args in
-    finish-asks a.answer c.enum_told.given.1 a.zones a.arcs a.work.now s.requires
+    finish_asks a.answer c.enum_told.given.1 a.zones a.arcs a.work.now s.requires
 
 enum-known-answer : tie.Need-enum-known-answer
 enum-known-answer c = search rules
@@ -31,7 +31,7 @@ returns : tie.Need-returns
 returns c =
     let d = c.before in
     let a = d.before.before.before.args in
-    finish-refused a.answer _ d.answer.given.1 a.zones a.arcs a.work.now
+    finish_refused a.answer _ d.answer.given.1 a.zones a.arcs a.work.now
 
 enum_told : tie.Need-enum-told
 enum_told c = search rules
@@ -52,11 +52,11 @@ returns-2 c =
     let a = e.before.before.before.args in (
       refl,
       d.clear.ensures ∙ ap (λ (k : ℕ). cleared k a.work.now) d.before.asked-work.ensures
-          ∙ finish-done a.answer e.enum_told.given.1 a.zones a.arcs a.work.now,
+          ∙ finish_done a.answer e.enum_told.given.1 a.zones a.arcs a.work.now,
     )
 
-pub clear-draft-spec : {M : Type 1} → statement M
-clear-draft-spec =
+pub clear_draft_spec : {M : Type 1} → statement M
+clear_draft_spec =
     tie.close
     (tie.spec
     enum-known-answer

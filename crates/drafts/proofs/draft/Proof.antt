@@ -3,10 +3,10 @@
 use borrow.Author.Rules.{rules}
 use mathlib.Core.Path.{◌≡◌, sym, ap, ◌∙◌}
 use mathlib.Core.Option.{none}
-use Rattle.rules.specs.Calls.{records-trouble}
-use Rattle.probes.specs.Tested.{tested-trouble}
-use Rattle.theory.proofs.Files.Accepting.{fine-few}
-use Rattle.drafts.proofs.Answering.{drafted-refused, draft-ready, drafted-done}
+use Rattle.rules.specs.Calls.{records_trouble}
+use Rattle.probes.specs.Tested.{tested_trouble}
+use Rattle.theory.proofs.Files.Accepting.{fine_few}
+use Rattle.drafts.proofs.Answering.{drafted_refused, draft_ready, drafted_done}
 use Rattle.drafts.proofs.draft.Statement.{statement}
 use Rattle.drafts.proofs.draft.Tie as tie
 
@@ -20,10 +20,10 @@ entry c = c.before.before.before.before.before.before
 
 -- what the tests say is what was found
 found : (c : Tried) →
-    records-trouble (entry c).args.zones (entry c).args.tails.now (entry c).args.heads.now
+    records_trouble (entry c).args.zones (entry c).args.tails.now (entry c).args.heads.now
     (entry c).args.gone.now
     (entry c).args.room (entry c).args.work.now
-    ≡ tested-trouble c.records.result
+    ≡ tested_trouble c.records.result
 found c = sym c.records.ensures
 
 -- the tests found no trouble
@@ -32,12 +32,12 @@ Here = tie.After-enum-told
 
 -- there is none
 none_here : (c : Here) →
-    records-trouble (entry c.before.before).args.zones (entry c.before.before).args.tails.now
+    records_trouble (entry c.before.before).args.zones (entry c.before.before).args.tails.now
     (entry c.before.before).args.heads.now (entry c.before.before).args.gone.now
     (entry c.before.before).args.room
     (entry c.before.before).args.work.now
     ≡ none
-none_here c = found c.before.before ∙ ap tested-trouble c.enum_told.given.1
+none_here c = found c.before.before ∙ ap tested_trouble c.enum_told.given.1
 
 records-requires : tie.Need-records-requires
 records-requires c κs = search rules
@@ -49,9 +49,9 @@ returns : tie.Need-returns
 returns c =
     let d = c.before.before.before in
     let a = (entry d).args in
-    drafted-refused a.zones a.tails.now a.heads.now a.gone.now a.room a.work.now
+    drafted_refused a.zones a.tails.now a.heads.now a.gone.now a.room a.work.now
     c.before.t.given.0.0
-    (found d ∙ ap tested-trouble c.before.t.given.1)
+    (found d ∙ ap tested_trouble c.before.t.given.1)
 
 enum_told : tie.Need-enum-told
 enum_told c = search rules
@@ -59,9 +59,9 @@ enum_told c = search rules
 map-of-requires : tie.Need-map-of-requires
 map-of-requires c κs =
     let a = (entry c.before.before).args in
-    let f = (draft-ready a.zones a.tails.now a.heads.now a.gone.now a.room a.work.now
+    let f = (draft_ready a.zones a.tails.now a.heads.now a.gone.now a.room a.work.now
     (none_here c)).0.ready.fine in
-    (f.accepted.zones-most, fine-few f)
+    (f.accepted.zones_most, fine_few f)
 
 returns-2 : tie.Need-returns-2
 returns-2 c =
@@ -69,7 +69,7 @@ returns-2 c =
     let m = d.before.before in
     let e = m.before in
     let a = (entry e.before.before).args in
-    drafted-done a.zones a.tails.now a.heads.now a.gone.now a.room a.work.now m.map_of.result
+    drafted_done a.zones a.tails.now a.heads.now a.gone.now a.room a.work.now m.map_of.result
     d.lay.new.1.1.1.1.0 d.lay.result c.answer-of.result m.map_of.ensures (none_here e)
     d.lay.ensures c.answer-of.ensures
 
@@ -78,7 +78,7 @@ lay-requires c κs =
     let m = c.before in
     let a = (entry m.before.before.before).args in
     rw m.map_of.ensures
-    (draft-ready a.zones a.tails.now a.heads.now a.gone.now a.room a.work.now
+    (draft_ready a.zones a.tails.now a.heads.now a.gone.now a.room a.work.now
     (none_here m.before)).0
 
 answer-of-requires : tie.Need-answer-of-requires
@@ -90,8 +90,8 @@ same_length c = search rules
 same-length-2 : tie.Need-same-length-2
 same-length-2 c = search rules
 
-pub draft-spec : {M : Type 1} → statement M
-draft-spec =
+pub draft_spec : {M : Type 1} → statement M
+draft_spec =
     tie.close
     (tie.spec
     records-requires

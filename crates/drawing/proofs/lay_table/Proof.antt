@@ -2,21 +2,21 @@
 -- components are arranged there. Assumes nothing.
 use mathlib.Core.Path.{◌≡◌, sym, ap, subst}
 use borrow.Author.Rules.{rules}
-use Rattle.rules.specs.Calls.{arcs-of}
+use Rattle.rules.specs.Calls.{arcs_of}
 use Rattle.workmap.specs.declared.Map.{Map}
 use Rattle.workmap.specs.declared.PlacesAt.{PlacesAt}
 use Rattle.workmap.specs.declared.RowsAt.{RowsAt}
-use Rattle.workmap.specs.Map.{places-at, table_at}
+use Rattle.workmap.specs.Map.{places_at, table_at}
 use Rattle.arranged.specs.Arranged.{Arranged}
-use Rattle.spots.specs.Spots.{Places-notable, Places-noted}
-use Rattle.condense.specs.ComponentArcs.{place_in, component-arcs, Condensable}
-use Rattle.drawing.proofs.Tables.{places-asked, condense-asked, tabled}
+use Rattle.spots.specs.Spots.{PlacesNotable, PlacesNoted}
+use Rattle.condense.specs.ComponentArcs.{place_in, component_arcs, Condensable}
+use Rattle.drawing.proofs.Tables.{places_asked, condense_asked, tabled}
 use Rattle.drawing.proofs.lay_table.Statement.{statement}
 use Rattle.drawing.proofs.lay_table.Tie as tie
 
 -- the places of the components, and the rows, as the map has them
-places-made : (s : tie.Start) → s.args.m.places ≡ places-at s.args.m.zones
-places-made s = ap (λ (m : Map). m.places) s.requires.1
+places_made : (s : tie.Start) → s.args.m.places ≡ places_at s.args.m.zones
+places_made s = ap (λ (m : Map). m.places) s.requires.1
 
 rows_made : (s : tie.Start) → s.args.m.table.rows ≡ (table_at s.args.m.zones).rows
 rows_made s = ap (λ (m : Map). m.table.rows) s.requires.1
@@ -27,55 +27,55 @@ entry c = c.before.before.before.before.before.before.before
 
 noted : (c : tie.After-note-places) →
     let a = (entry c).args in
-    Places-noted a.work.now c.note-places.new.0 (places-at a.m.zones) a.places
+    PlacesNoted a.work.now c.note-places.new.0 (places_at a.m.zones) a.places
 noted c =
     let a = (entry c).args in
     subst
-    (λ (P : PlacesAt). Places-noted a.work.now c.note-places.new.0 P a.places)
-    (places-made (entry c))
+    (λ (P : PlacesAt). PlacesNoted a.work.now c.note-places.new.0 P a.places)
+    (places_made (entry c))
     c.note-places.ensures
 
 -- the arcs between the components are arranged: from where the places are noted, and what arranging left
-abbrev noted-at : tie.After-condense → tie.After-note-places
-noted-at c = c.before.before.before.before
+abbrev noted_at : tie.After-condense → tie.After-note-places
+noted_at c = c.before.before.before.before
 
-arranged-there : (c : tie.After-condense) →
-    let a = (entry (noted-at c)).args in
-    let w₁ = (noted-at c).note-places.new.0 in
+arranged_there : (c : tie.After-condense) →
+    let a = (entry (noted_at c)).args in
+    let w₁ = (noted_at c).note-places.new.0 in
     let n = a.m.zones in
     Arranged w₁ c.condense.new.0 (table_at n).rows
-    (component-arcs (place_in w₁ (places-at n)) (arcs-of a.tails.now a.heads.now))
-arranged-there c =
-    let s = entry (noted-at c) in
+    (component_arcs (place_in w₁ (places_at n)) (arcs_of a.tails.now a.heads.now))
+arranged_there c =
+    let s = entry (noted_at c) in
     let a = s.args in
-    let w₁ = (noted-at c).note-places.new.0 in
+    let w₁ = (noted_at c).note-places.new.0 in
     let w₂ = c.condense.new.0 in
-    let es = arcs-of a.tails.now a.heads.now in
+    let es = arcs_of a.tails.now a.heads.now in
     subst
-    (λ (R : RowsAt). Arranged w₁ w₂ R (component-arcs (place_in w₁ (places-at a.m.zones)) es))
+    (λ (R : RowsAt). Arranged w₁ w₂ R (component_arcs (place_in w₁ (places_at a.m.zones)) es))
     (rows_made s)
     (subst
-    (λ (P : PlacesAt). Arranged w₁ w₂ a.m.table.rows (component-arcs (place_in w₁ P) es))
-    (places-made s)
+    (λ (P : PlacesAt). Arranged w₁ w₂ a.m.table.rows (component_arcs (place_in w₁ P) es))
+    (places_made s)
     c.condense.ensures)
 
 returns : tie.Need-returns
 returns c =
     let d = c.before.before in
-    let b = noted-at d in
+    let b = noted_at d in
     let s = entry b in
     let a = s.args in
     tabled a.work.now a.m.zones a.tails.now a.heads.now a.places s.pre.0
-    b.note-places.last.0 (noted b) d.condense.new.0 (arranged-there d)
+    b.note-places.last.0 (noted b) d.condense.new.0 (arranged_there d)
 
 note-places-requires : tie.Need-note-places-requires
 note-places-requires c κs =
     let s = c.before.before.before.before.before.before in
     let a = s.args in
     subst
-    (λ (P : PlacesAt). Places-notable a.work.now P a.places)
-    (sym (places-made s))
-    (places-asked a.work.now a.m.zones a.tails.now a.heads.now a.places s.requires.0)
+    (λ (P : PlacesAt). PlacesNotable a.work.now P a.places)
+    (sym (places_made s))
+    (places_asked a.work.now a.m.zones a.tails.now a.heads.now a.places s.requires.0)
 
 condense-requires : tie.Need-condense-requires
 condense-requires c κs =
@@ -88,11 +88,11 @@ condense-requires c κs =
     (sym (rows_made s))
     (subst
     (λ (P : PlacesAt). Condensable w₁ P (table_at a.m.zones).rows a.tails.now a.heads.now)
-    (sym (places-made s))
-    (condense-asked a.work.now a.m.zones a.tails.now a.heads.now a.places s.pre.0 w₁ (noted b)))
+    (sym (places_made s))
+    (condense_asked a.work.now a.m.zones a.tails.now a.heads.now a.places s.pre.0 w₁ (noted b)))
 
 same_length : tie.Need-same-length
 same_length c = search rules
 
-pub lay-table-spec : {M : Type 1} → statement M
-lay-table-spec = tie.close (tie.spec note-places-requires condense-requires same_length returns)
+pub lay_table_spec : {M : Type 1} → statement M
+lay_table_spec = tie.close (tie.spec note-places-requires condense-requires same_length returns)

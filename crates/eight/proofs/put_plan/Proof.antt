@@ -1,6 +1,6 @@
 -- `eight::put_plan` meets its contract: each case of the answer is put with its numbers. Assumes nothing.
 use borrow.Author.Rules.{rules}
-use Rattle.rules.specs.Answers.{plan-told}
+use Rattle.rules.specs.Answers.{plan_told}
 use Rattle.eight.proofs.Cases.{case}
 use Rattle.eight.proofs.put_plan.Statement.{statement}
 use Rattle.eight.proofs.put_plan.Tie as tie
@@ -18,12 +18,12 @@ put-refusal-requires : tie.Need-put-refusal-requires
 put-refusal-requires c κs = search rules
 
 returns : tie.Need-returns
-returns c = case plan-told c.before.before.before.a.given.1 c.put-done.ensures
+returns c = case plan_told c.before.before.before.a.given.1 c.put-done.ensures
 
 returns-2 : tie.Need-returns-2
-returns-2 c = case plan-told c.before.before.before.a2.given.1 c.put-refusal.ensures
+returns-2 c = case plan_told c.before.before.before.a2.given.1 c.put-refusal.ensures
 
-pub put-plan-spec : {M : Type 1} → statement M
-put-plan-spec =
+pub put_plan_spec : {M : Type 1} → statement M
+put_plan_spec =
     tie.close
     (tie.spec enum-known-a put-done-requires enum-known-a-2 put-refusal-requires returns returns-2)

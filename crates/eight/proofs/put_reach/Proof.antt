@@ -1,6 +1,6 @@
 -- `eight::put_reach` meets its contract: each case of the answer is put with its numbers. Assumes nothing.
 use borrow.Author.Rules.{rules}
-use Rattle.rules.specs.Answers.{reach-told}
+use Rattle.rules.specs.Answers.{reach_told}
 use Rattle.eight.proofs.Cases.{case}
 use Rattle.eight.proofs.put_reach.Statement.{statement}
 use Rattle.eight.proofs.put_reach.Tie as tie
@@ -23,13 +23,13 @@ put-refusal-requires c κs = search rules
 returns : tie.Need-returns
 returns c =
     let known = c.before.before.before.before in
-    case reach-told known.a.given.1 (rw c.before.yes-number.ensures at c.put-done.ensures)
+    case reach_told known.a.given.1 (rw c.before.yes-number.ensures at c.put-done.ensures)
 
 returns-2 : tie.Need-returns-2
-returns-2 c = case reach-told c.before.before.before.a2.given.1 c.put-refusal.ensures
+returns-2 c = case reach_told c.before.before.before.a2.given.1 c.put-refusal.ensures
 
-pub put-reach-spec : {M : Type 1} → statement M
-put-reach-spec =
+pub put_reach_spec : {M : Type 1} → statement M
+put_reach_spec =
     tie.close
     (tie.spec
     enum-known-a

@@ -23,7 +23,7 @@ returns c = case read_told c.before.before.before.a.given.1 c.put-done.ensures
 returns-2 : tie.Need-returns-2
 returns-2 c = case read_told c.before.before.before.a2.given.1 c.put-refusal.ensures
 
-pub put-read-spec : {M : Type 1} → statement M
-put-read-spec =
+pub put_read_spec : {M : Type 1} → statement M
+put_read_spec =
     tie.close
     (tie.spec enum-known-a put-done-requires enum-known-a-2 put-refusal-requires returns returns-2)

@@ -9,5 +9,5 @@ trouble-number-requires c κs = search rules
 returns : tie.Need-returns
 returns c = search rules
 
-pub put-refusal-spec : {M : Type 1} → statement M
-put-refusal-spec = tie.close (tie.spec trouble-number-requires returns)
+pub put_refusal_spec : {M : Type 1} → statement M
+put_refusal_spec = tie.close (tie.spec trouble-number-requires returns)

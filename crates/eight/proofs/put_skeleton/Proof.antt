@@ -1,6 +1,6 @@
 -- `eight::put_skeleton` meets its contract: each case of the answer is put with its numbers. Assumes nothing.
 use borrow.Author.Rules.{rules}
-use Rattle.rules.specs.Answers.{skeleton-told}
+use Rattle.rules.specs.Answers.{skeleton_told}
 use Rattle.eight.proofs.Cases.{case}
 use Rattle.eight.proofs.put_skeleton.Statement.{statement}
 use Rattle.eight.proofs.put_skeleton.Tie as tie
@@ -18,12 +18,12 @@ put-refusal-requires : tie.Need-put-refusal-requires
 put-refusal-requires c κs = search rules
 
 returns : tie.Need-returns
-returns c = case skeleton-told c.before.before.before.a.given.1 c.put-done.ensures
+returns c = case skeleton_told c.before.before.before.a.given.1 c.put-done.ensures
 
 returns-2 : tie.Need-returns-2
-returns-2 c = case skeleton-told c.before.before.before.a2.given.1 c.put-refusal.ensures
+returns-2 c = case skeleton_told c.before.before.before.a2.given.1 c.put-refusal.ensures
 
-pub put-skeleton-spec : {M : Type 1} → statement M
-put-skeleton-spec =
+pub put_skeleton_spec : {M : Type 1} → statement M
+put_skeleton_spec =
     tie.close
     (tie.spec enum-known-a put-done-requires enum-known-a-2 put-refusal-requires returns returns-2)

@@ -1,6 +1,6 @@
 -- `eight::put_strong` meets its contract: each case of the answer is put with its numbers. Assumes nothing.
 use borrow.Author.Rules.{rules}
-use Rattle.rules.specs.Answers.{strong-told}
+use Rattle.rules.specs.Answers.{strong_told}
 use Rattle.eight.proofs.Cases.{case}
 use Rattle.eight.proofs.put_strong.Statement.{statement}
 use Rattle.eight.proofs.put_strong.Tie as tie
@@ -23,13 +23,13 @@ put-refusal-requires c κs = search rules
 returns : tie.Need-returns
 returns c =
     let known = c.before.before.before.before in
-    case strong-told known.a.given.1 (rw c.before.yes-number.ensures at c.put-done.ensures)
+    case strong_told known.a.given.1 (rw c.before.yes-number.ensures at c.put-done.ensures)
 
 returns-2 : tie.Need-returns-2
-returns-2 c = case strong-told c.before.before.before.a2.given.1 c.put-refusal.ensures
+returns-2 c = case strong_told c.before.before.before.a2.given.1 c.put-refusal.ensures
 
-pub put-strong-spec : {M : Type 1} → statement M
-put-strong-spec =
+pub put_strong_spec : {M : Type 1} → statement M
+put_strong_spec =
     tie.close
     (tie.spec
     enum-known-a

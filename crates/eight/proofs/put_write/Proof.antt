@@ -1,6 +1,6 @@
 -- `eight::put_write` meets its contract: each case of the answer is put with its numbers. Assumes nothing.
 use borrow.Author.Rules.{rules}
-use Rattle.rules.specs.Answers.{write-told}
+use Rattle.rules.specs.Answers.{write_told}
 use Rattle.eight.proofs.Cases.{case}
 use Rattle.eight.proofs.put_write.Statement.{statement}
 use Rattle.eight.proofs.put_write.Tie as tie
@@ -18,12 +18,12 @@ put-refusal-requires : tie.Need-put-refusal-requires
 put-refusal-requires c κs = search rules
 
 returns : tie.Need-returns
-returns c = case write-told c.before.before.before.a.given.1 c.put-done.ensures
+returns c = case write_told c.before.before.before.a.given.1 c.put-done.ensures
 
 returns-2 : tie.Need-returns-2
-returns-2 c = case write-told c.before.before.before.a2.given.1 c.put-refusal.ensures
+returns-2 c = case write_told c.before.before.before.a2.given.1 c.put-refusal.ensures
 
-pub put-write-spec : {M : Type 1} → statement M
-put-write-spec =
+pub put_write_spec : {M : Type 1} → statement M
+put_write_spec =
     tie.close
     (tie.spec enum-known-a put-done-requires enum-known-a-2 put-refusal-requires returns returns-2)

@@ -3,7 +3,7 @@ use Rattle.figures.proofs.answer_of.Statement.{statement}
 use Rattle.figures.proofs.answer_of.Tie as tie
 
 returns : tie.Need-returns
-returns c N F = cc (F.sources-are, F.sinks-are, F.alone-are, F.pairs-are, F.need-is)
+returns c N F = cc (F.sources_are, F.sinks_are, F.alone_are, F.pairs_are, F.need_is)
 
-pub answer-of-spec : {M : Type 1} → statement M
-answer-of-spec = tie.close (tie.spec returns)
+pub answer_of_spec : {M : Type 1} → statement M
+answer_of_spec = tie.close (tie.spec returns)

@@ -3,9 +3,9 @@ use mathlib.Core.Path.{◌≡◌, ◌∙◌, sym, ap}
 use borrow.Author.Rules.{rules}
 use Rattle.rules.specs.declared.TroubleKind.TheVariants.{Range, Head}
 use Rattle.rules.specs.Number.{got}
-use Rattle.rules.specs.File.{zone-at}
-use Rattle.filenumbers.specs.Readings.{number-reading}
-use Rattle.filearcs.proofs.ArcCases.{arc-refused, arc-headless, arc-self, arc-taken}
+use Rattle.rules.specs.File.{zone_at}
+use Rattle.filenumbers.specs.Readings.{number_reading}
+use Rattle.filearcs.proofs.ArcCases.{arc_refused, arc_headless, arc_self, arc_taken}
 use Rattle.filearcs.proofs.arc.Statement.{statement}
 use Rattle.filearcs.proofs.arc.Tie as tie
 
@@ -14,10 +14,10 @@ abbrev entry : tie.After-tail → tie.Start
 entry c = c.before.before.before.before
 
 -- the tail that was read is a zone number of the file
-tail-read : (c : tie.After-tail) →
+tail_read : (c : tie.After-tail) →
     let a = (entry c).args in
-    zone-at a.s.now Range a.zones a.c.at ≡ got c.tail.given.0.0 c.tail.given.0.1.0.at
-tail-read c = sym c.before.before.zone.ensures ∙ ap number-reading c.tail.given.1
+    zone_at a.s.now Range a.zones a.c.at ≡ got c.tail.given.0.0 c.tail.given.0.1.0.at
+tail_read c = sym c.before.before.zone.ensures ∙ ap number_reading c.tail.given.1
 
 -- and from where the head was read
 abbrev tailed : tie.After-head → tie.After-tail
@@ -26,9 +26,9 @@ tailed c = c.before.before.before.before
 -- the head that was read is one too
 head_read : (c : tie.After-head) →
     let a = (entry (tailed c)).args in
-    zone-at a.s.now Head a.zones (tailed c).tail.given.0.1.0.at
+    zone_at a.s.now Head a.zones (tailed c).tail.given.0.1.0.at
     ≡ got c.head.given.0.0 c.head.given.0.1.0.at
-head_read c = sym c.before.before.zone2.ensures ∙ ap number-reading c.head.given.1
+head_read c = sym c.before.before.zone2.ensures ∙ ap number_reading c.head.given.1
 
 zone-requires : tie.Need-zone-requires
 zone-requires c κs = search rules
@@ -40,8 +40,8 @@ returns : tie.Need-returns
 returns c =
     let m = c.before.before.before in
     let a = m.before.before.args in
-    let e = sym m.zone.ensures ∙ ap number-reading c.before.t.given.1 in
-    arc-refused a.s.now a.zones a.c.at e
+    let e = sym m.zone.ensures ∙ ap number_reading c.before.t.given.1 in
+    arc_refused a.s.now a.zones a.c.at e
 
 enum-known-tail : tie.Need-enum-known-tail
 enum-known-tail c = search rules
@@ -57,8 +57,8 @@ returns-2 c =
     let k = c.before.before.before in
     let l = k.before.before in
     let a = (entry l).args in
-    let f = sym k.zone2.ensures ∙ ap number-reading c.before.t2.given.1 in
-    arc-headless a.s.now a.zones a.c.at (tail-read l) f
+    let f = sym k.zone2.ensures ∙ ap number_reading c.before.t2.given.1 in
+    arc_headless a.s.now a.zones a.c.at (tail_read l) f
 
 enum-known-head : tie.Need-enum-known-head
 enum-known-head c = search rules
@@ -67,16 +67,16 @@ returns-4 : tie.Need-returns-4
 returns-4 c =
     let h = c.before.before in
     let a = (entry (tailed h)).args in
-    arc-taken a.s.now a.zones a.c.at (tail-read (tailed h)) (head_read h) c.if1.false
+    arc_taken a.s.now a.zones a.c.at (tail_read (tailed h)) (head_read h) c.if1.false
 
 returns-3 : tie.Need-returns-3
 returns-3 c =
     let h = c.before.before in
     let a = (entry (tailed h)).args in
-    arc-self a.s.now a.zones a.c.at (tail-read (tailed h)) (head_read h) c.if1.true
+    arc_self a.s.now a.zones a.c.at (tail_read (tailed h)) (head_read h) c.if1.true
 
-pub arc-spec : {M : Type 1} → statement M
-arc-spec =
+pub arc_spec : {M : Type 1} → statement M
+arc_spec =
     tie.close
     (tie.spec
     zone-requires

@@ -5,8 +5,8 @@ use native.Mathlib.Omega.{arith}
 use mathlib.Core.Path.{◌≡◌, ap}
 use lib.ListN.{length, get_or}
 use borrow.Author.Rules.{rules}
-use Rattle.theory.proofs.Files.NumberLaws.{length-bounds}
-use Rattle.filebytes.proofs.Bytes.{rest-bytes, rest-length, rest-none}
+use Rattle.theory.proofs.Files.NumberLaws.{length_bounds}
+use Rattle.filebytes.proofs.Bytes.{rest_bytes, rest_length, rest_none}
 use Rattle.filebytes.proofs.arcs_length.Statement.{statement}
 use Rattle.filebytes.proofs.arcs_length.Tie as tie
 
@@ -14,7 +14,7 @@ abbrev invariant-loop : tie.invariant-loop
 invariant-loop tails heads total₀ i₀ total i =
     (i ≤ length tails)
     × (total ≤ 6 * i)
-    × (length (rest-bytes 0 tails heads) ≡ total + length (rest-bytes i tails heads))
+    × (length (rest_bytes 0 tails heads) ≡ total + length (rest_bytes i tails heads))
 
 abbrev decreases-loop : tie.decreases-loop
 decreases-loop tails heads total₀ i₀ total i = length tails - i
@@ -50,13 +50,13 @@ add_total : tie.Need-overflow-add-total invariant-loop decreases-loop
 add_total c =
     let a = c.before.before.before.before.before.before.before.before.args in
     let i = c.before.before.before.before.before.loop.i in
-    omega (arith, length-bounds (get_or a.tails.now i 0), length-bounds (get_or a.heads.now i 0))
+    omega (arith, length_bounds (get_or a.tails.now i 0), length_bounds (get_or a.heads.now i 0))
 
 add-total-2 : tie.Need-overflow-add-total-2 invariant-loop decreases-loop
 add-total-2 c =
     let a = c.before.before.before.before.before.before.before.before.args in
     let i = c.before.before.before.before.before.loop.i in
-    omega (arith, length-bounds (get_or a.tails.now i 0), length-bounds (get_or a.heads.now i 0))
+    omega (arith, length_bounds (get_or a.tails.now i 0), length_bounds (get_or a.heads.now i 0))
 
 add-i : tie.Need-overflow-add-i invariant-loop decreases-loop
 add-i c = search rules
@@ -68,20 +68,20 @@ loop-again : tie.Need-loop-preserved invariant-loop decreases-loop
 loop-again c =
     let a = c.before.before.before.before.before.before.before.before.args in
     let i = c.before.before.before.before.before.loop.i in
-    let t = length-bounds (get_or a.tails.now i 0) in
-    let h = length-bounds (get_or a.heads.now i 0) in
-    let e = rest-length i a.tails.now a.heads.now (omega arith) (omega arith) in
+    let t = length_bounds (get_or a.tails.now i 0) in
+    let h = length_bounds (get_or a.heads.now i 0) in
+    let e = rest_length i a.tails.now a.heads.now (omega arith) (omega arith) in
     (search rules, omega arith, omega arith)
 
 returns : tie.Need-returns invariant-loop decreases-loop
 returns c =
     let a = c.before.before.before.before.args in
     let l = c.before.loop in
-    let e = ap length (rest-none l.i a.tails.now a.heads.now (omega arith)) in
+    let e = ap length (rest_none l.i a.tails.now a.heads.now (omega arith)) in
     omega (arith, l.invariant.2)
 
-pub arcs-length-spec : {M : Type 1} → statement M
-arcs-length-spec =
+pub arcs_length_spec : {M : Type 1} → statement M
+arcs_length_spec =
     tie.close
     (tie.spec
     invariant-loop

@@ -6,16 +6,16 @@ use mathlib.Core.Path.{◌≡◌, refl, sym, ap, ◌∙◌}
 use lib.Seq.{sets, length-sets}
 use lib.ListN.{length}
 use borrow.Author.Rules.{rules}
-use Rattle.filebytes.proofs.Bytes.{rest-bytes, rest-length, rest-turn, rest-none}
+use Rattle.filebytes.proofs.Bytes.{rest_bytes, rest_length, rest_turn, rest_none}
 use Rattle.filebytes.proofs.write_arcs.Statement.{statement}
 use Rattle.filebytes.proofs.write_arcs.Tie as tie
 
 abbrev invariant-loop : tie.invariant-loop
 invariant-loop file₀ from tails heads at₀ i₀ file at i =
     (i ≤ length tails)
-    × (at + length (rest-bytes i tails heads) ≤ length file)
+    × (at + length (rest_bytes i tails heads) ≤ length file)
     × (length file ≡ length file₀)
-    × (sets file₀ from (rest-bytes 0 tails heads) ≡ sets file at (rest-bytes i tails heads))
+    × (sets file₀ from (rest_bytes 0 tails heads) ≡ sets file at (rest_bytes i tails heads))
 
 abbrev decreases-loop : tie.decreases-loop
 decreases-loop file₀ from tails heads at₀ i₀ file at i = length tails - i
@@ -36,7 +36,7 @@ write-number-requires : tie.Need-write-number-requires invariant-loop decreases-
 write-number-requires c κs =
     let a = c.before.before.before.before.before.before.before.args in
     let i = c.before.before.before.loop.i in
-    let e = rest-length i a.tails.now a.heads.now (omega arith) (omega arith) in
+    let e = rest_length i a.tails.now a.heads.now (omega arith) (omega arith) in
     (omega (arith, c.shared-slice-known3.given i), omega arith)
 
 mul-write-number-2 : tie.Need-overflow-mul-write-number-2 invariant-loop decreases-loop
@@ -57,7 +57,7 @@ write-number-requires-2 c κs =
     let f = c.before.before.before.before.write-number in
     let p = f.ensures in
     let long : length f.new.0 ≡ length l.file = ap length p.1 ∙ simp length-sets in
-    let e = rest-length l.i a.tails.now a.heads.now (omega arith) (omega arith) in
+    let e = rest_length l.i a.tails.now a.heads.now (omega arith) (omega arith) in
     (omega (arith, c.shared-slice-known4.given l.i), omega (arith, long, e))
 
 add-i : tie.Need-overflow-add-i invariant-loop decreases-loop
@@ -77,12 +77,12 @@ loop-again c =
     let q = g.ensures in
     let long : length f.new.0 ≡ length l.file = ap length p.1 ∙ simp length-sets in
     let long' : length g.new.0 ≡ length l.file = ap length q.1 ∙ simp length-sets long in
-    let e = rest-length l.i a.tails.now a.heads.now (omega arith) (omega arith) in (
+    let e = rest_length l.i a.tails.now a.heads.now (omega arith) (omega arith) in (
       search rules,
       omega (arith, long', e),
       long' ∙ l.invariant.2,
       l.invariant.3
-          ∙ rest-turn l.file l.i l.at a.tails.now a.heads.now (omega arith) (omega arith)
+          ∙ rest_turn l.file l.i l.at a.tails.now a.heads.now (omega arith) (omega arith)
           p.0
           p.1
           q.0
@@ -96,11 +96,11 @@ returns : tie.Need-returns invariant-loop decreases-loop
 returns c =
     let a = c.before.before.before.before.before.args in
     let l = c.before.loop in
-    let e = rest-none l.i a.tails.now a.heads.now (omega arith) in
+    let e = rest_none l.i a.tails.now a.heads.now (omega arith) in
     sym (l.invariant.3 ∙ rw e)
 
-pub write-arcs-spec : {M : Type 1} → statement M
-write-arcs-spec =
+pub write_arcs_spec : {M : Type 1} → statement M
+write_arcs_spec =
     tie.close
     (tie.spec
     invariant-loop

@@ -1,6 +1,6 @@
 -- `arc_count` meets its contract: its tests one after the other are those of the rules. Assumes nothing.
 use borrow.Author.Rules.{rules}
-use Rattle.filecounts.proofs.Bounds.{count-within}
+use Rattle.filecounts.proofs.Bounds.{count_within}
 use Rattle.filecounts.proofs.arc_count.Statement.{statement}
 use Rattle.filecounts.proofs.arc_count.Tie as tie
 
@@ -20,13 +20,13 @@ returns : tie.Need-returns
 returns c =
     let few = c.before.before in
     let a = few.before.before.before.args in
-    count-within a.s.now a.tails a.heads a.c.at
+    count_within a.s.now a.tails a.heads a.c.at
     few.before.number.ensures
     few.within.ensures
     c.before.within2.ensures
     c.within3.ensures
 
-pub arc-count-spec : {M : Type 1} → statement M
-arc-count-spec =
+pub arc_count_spec : {M : Type 1} → statement M
+arc_count_spec =
     tie.close
     (tie.spec number-requires within-requires within-requires-2 within-requires-3 returns)

@@ -2,7 +2,7 @@
 use mathlib.Core.Path.{◌∙◌, ap}
 use borrow.Author.Rules.{rules}
 use borrow.Author.Tests.{lt-ltb, le-ltb}
-use Rattle.filenumbers.specs.Readings.{number-reading}
+use Rattle.filenumbers.specs.Readings.{number_reading}
 use Rattle.filecounts.proofs.within.Statement.{statement}
 use Rattle.filecounts.proofs.within.Tie as tie
 
@@ -20,7 +20,7 @@ number-refused-requires c κs = search rules
 
 returns-2 : tie.Need-returns-2
 returns-2 c =
-    ap number-reading c.number-refused.ensures
+    ap number_reading c.number-refused.ensures
     ∙ simp (c.before.before.before.found2.given.1, lt-ltb _ _ c.before.if1.true)
 
 number-refused-requires-2 : tie.Need-number-refused-requires-2
@@ -28,7 +28,7 @@ number-refused-requires-2 c κs = search rules
 
 returns-3 : tie.Need-returns-3
 returns-3 c =
-    ap number-reading c.number-refused2.ensures
+    ap number_reading c.number-refused2.ensures
     ∙ simp (
       c.before.before.before.before.found2.given.1,
       le-ltb _ _ c.before.before.if1.false,
@@ -39,8 +39,8 @@ returns-4 : tie.Need-returns-4
 returns-4 c =
     simp (c.before.before.before.found2.given.1, le-ltb _ _ c.before.if1.false, le-ltb _ _ c.if2.false)
 
-pub within-spec : {M : Type 1} → statement M
-within-spec =
+pub within_spec : {M : Type 1} → statement M
+within_spec =
     tie.close
     (tie.spec
     enum-known-found

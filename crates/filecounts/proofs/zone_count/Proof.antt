@@ -1,6 +1,6 @@
 -- `zone_count` meets its contract: its bounds are those of the rules. Assumes nothing.
 use borrow.Author.Rules.{rules}
-use Rattle.filecounts.proofs.Bounds.{zones-within}
+use Rattle.filecounts.proofs.Bounds.{zones_within}
 use Rattle.filecounts.proofs.zone_count.Statement.{statement}
 use Rattle.filecounts.proofs.zone_count.Tie as tie
 
@@ -11,7 +11,7 @@ within-requires : tie.Need-within-requires
 within-requires c κs = search rules
 
 returns : tie.Need-returns
-returns c = zones-within c.before.before.before.args.s.now c.before.number.ensures c.within.ensures
+returns c = zones_within c.before.before.before.args.s.now c.before.number.ensures c.within.ensures
 
-pub zone-count-spec : {M : Type 1} → statement M
-zone-count-spec = tie.close (tie.spec number-requires within-requires returns)
+pub zone_count_spec : {M : Type 1} → statement M
+zone_count_spec = tie.close (tie.spec number-requires within-requires returns)

@@ -4,8 +4,8 @@ use Prim.Native.Nat.{◌≤◌, ◌-◌}
 use Rattle.filed.proofs.numbers.Statement.{statement}
 use Rattle.filed.proofs.numbers.Tie as tie
 
-pub numbers-spec : {M : Type 1} → statement M
-numbers-spec =
+pub numbers_spec : {M : Type 1} → statement M
+numbers_spec =
     tie.close
     (tie.spec
     (λ n file out₀ i₀ out i. i ≤ 10)

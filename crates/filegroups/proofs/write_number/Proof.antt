@@ -6,8 +6,8 @@ use native.Mathlib.Omega.{arith}
 use mathlib.Core.Path.{◌≡◌}
 use lib.ListN.{length-set}
 use borrow.Author.Rules.{rules}
-use Rattle.theory.proofs.Files.NumberLaws.{bytes_one, number-two, number-three}
-use Rattle.theory.proofs.Files.NumberLaws.{length-one, length_two, length_three, length-bounds}
+use Rattle.theory.proofs.Files.NumberLaws.{bytes_one, number_two, number_three}
+use Rattle.theory.proofs.Files.NumberLaws.{length_one, length_two, length_three, length_bounds}
 use Rattle.filegroups.proofs.write_number.Statement.{statement}
 use Rattle.filegroups.proofs.write_number.Tie as tie
 
@@ -15,7 +15,7 @@ cast-file : tie.Need-overflow-cast-file
 cast-file c = search rules
 
 slice-write-file : tie.Need-slice-write-file
-slice-write-file c = omega (arith, length-one c.before.args.n (omega arith))
+slice-write-file c = omega (arith, length_one c.before.args.n (omega arith))
 
 add-result : tie.Need-overflow-add-result
 add-result c = search rules
@@ -35,7 +35,7 @@ cast-file-2 : tie.Need-overflow-cast-file-2
 cast-file-2 c = search rules
 
 slice-write-file-2 : tie.Need-slice-write-file-2
-slice-write-file-2 c = omega (arith, length-bounds c.before.args.n)
+slice-write-file-2 c = omega (arith, length_bounds c.before.args.n)
 
 cast-file-3 : tie.Need-overflow-cast-file-3
 cast-file-3 c = search rules
@@ -55,7 +55,7 @@ same-length-2 c = search rules
 
 returns-2 : tie.Need-returns-2
 returns-2 c =
-    let e = number-two c.before.before.args.n (omega arith) (omega arith) in
+    let e = number_two c.before.before.args.n (omega arith) (omega arith) in
     (rw e, rw (e, add-one))
 
 add-file-3 : tie.Need-overflow-add-file-3
@@ -91,11 +91,11 @@ returns-3 : tie.Need-returns-3
 returns-3 c =
     let at = c.before.before.args.at in
     let two : at + 2 ≡ suc (suc at) = omega arith in
-    let e = number-three c.before.before.args.n (omega arith) in
+    let e = number_three c.before.before.args.n (omega arith) in
     (rw e, rw (e, add-one at, two))
 
-pub write-number-spec : {M : Type 1} → statement M
-write-number-spec =
+pub write_number_spec : {M : Type 1} → statement M
+write_number_spec =
     tie.close
     (tie.spec
     cast-file

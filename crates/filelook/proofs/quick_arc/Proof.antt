@@ -2,7 +2,7 @@
 use native.Mathlib.Omega.{arith}
 use borrow.Author.Rules.{rules}
 use Rattle.rules.specs.Network.{◌⟶◌}
-use Rattle.filelook.proofs.PlainLaws.{plain-arc}
+use Rattle.filelook.proofs.PlainLaws.{plain_arc}
 use Rattle.filelook.proofs.quick_arc.Statement.{statement}
 use Rattle.filelook.proofs.quick_arc.Tie as tie
 
@@ -12,7 +12,7 @@ returns-6 c =
     let t = h.before in
     let l = t.before.before.before.before in (
       t.quick-number.result.value ⟶ h.quick-number2.result.value,
-      plain-arc l.args.s.now l.args.at l.requires
+      plain_arc l.args.s.now l.args.at l.requires
           c.before.before.if3.false
           c.before.if4.false
           c.if5.false
@@ -41,8 +41,8 @@ returns-4 c = tt
 returns-5 : tie.Need-returns-5
 returns-5 c = tt
 
-pub quick-arc-spec : {M : Type 1} → statement M
-quick-arc-spec =
+pub quick_arc_spec : {M : Type 1} → statement M
+quick_arc_spec =
     tie.close
     (tie.spec
     returns

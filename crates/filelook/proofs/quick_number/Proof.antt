@@ -3,7 +3,7 @@ use Prim.Native.Nat.{◌+◌, ◌<◌}
 use native.Mathlib.Omega.{arith}
 use lib.ListN.{get_or}
 use borrow.Author.Rules.{rules}
-use Rattle.filelook.proofs.PlainLaws.{around-small, plain-one, plain-two}
+use Rattle.filelook.proofs.PlainLaws.{around_small, plain_one, plain_two}
 use Rattle.filelook.proofs.quick_number.Statement.{statement}
 use Rattle.filelook.proofs.quick_number.Tie as tie
 
@@ -23,12 +23,12 @@ two_bytes c =
 returns : tie.Need-returns
 returns c =
     let a = c.before.before.args in
-    record { near = search rules; plain = plain-one a.s.now a.at (search rules) c.if1.true }
+    record { near = search rules; plain = plain_one a.s.now a.at (search rules) c.if1.true }
 
 returns-2 : tie.Need-returns-2
 returns-2 c =
     let a = (entry c).args in
-    let plain = plain-two a.s.now a.at (entry c).requires c.before.if1.false (two_bytes c).1 in
+    let plain = plain_two a.s.now a.at (entry c).requires c.before.if1.false (two_bytes c).1 in
     record { near = search rules; plain = plain }
 
 shared-slice-read-b : tie.Need-shared-slice-read-b
@@ -56,16 +56,16 @@ add-t13 : tie.Need-overflow-add-t13
 add-t13 c = omega (arith, two_bytes c)
 
 mul-t15 : tie.Need-overflow-mul-t15
-mul-t15 c = omega (arith, around-small (get_or (entry c).args.s.now ((entry c).args.at + 1) 0))
+mul-t15 c = omega (arith, around_small (get_or (entry c).args.s.now ((entry c).args.at + 1) 0))
 
 add-t16 : tie.Need-overflow-add-t16
-add-t16 c = omega (arith, two_bytes c, around-small (get_or (entry c).args.s.now ((entry c).args.at + 1) 0))
+add-t16 c = omega (arith, two_bytes c, around_small (get_or (entry c).args.s.now ((entry c).args.at + 1) 0))
 
 add-t17 : tie.Need-overflow-add-t17
 add-t17 c = search rules
 
-pub quick-number-spec : {M : Type 1} → statement M
-quick-number-spec =
+pub quick_number_spec : {M : Type 1} → statement M
+quick_number_spec =
     tie.close
     (tie.spec
     shared-slice-read-b

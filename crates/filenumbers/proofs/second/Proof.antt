@@ -6,7 +6,7 @@ use lib.ListN.{get_or}
 use borrow.Author.Tests.{le-leb, lt-leb, lt-ltb, le-ltb, eq-eqb, ne_eqb}
 use borrow.Author.Rules.{rules}
 use Rattle.rules.specs.Number.{second_group}
-use Rattle.filenumbers.specs.Readings.{number-reading}
+use Rattle.filenumbers.specs.Readings.{number_reading}
 use Rattle.filenumbers.proofs.second.Statement.{statement}
 use Rattle.filenumbers.proofs.second.Tie as tie
 
@@ -18,7 +18,7 @@ number-refused-requires c κs = search rules
 
 returns : tie.Need-returns
 unfolding second_group
-returns c = ap number-reading c.number-refused.ensures ∙ simp (le-leb _ _ c.before.if1.true)
+returns c = ap number_reading c.number-refused.ensures ∙ simp (le-leb _ _ c.before.if1.true)
 
 shared-slice-read-b : tie.Need-shared-slice-read-b
 shared-slice-read-b c = search rules
@@ -39,27 +39,27 @@ add-t17 : tie.Need-overflow-add-t17
 add-t17 c = search rules
 
 -- the byte of the group is below 256
-byte-here : (c : tie.Else2) →
+byte_here : (c : tie.Else2) →
     let a = c.before.before.before.before.before.args in
     get_or a.s.now (a.at + 1) 0 < 256
-byte-here c =
+byte_here c =
     let known = c.before.before.shared-slice-known2 in
     omega (arith, known.given (c.before.before.before.before.before.args.at + 1))
 
 cast-third : tie.Need-overflow-cast-third
-cast-third c = omega (arith, byte-here c)
+cast-third c = omega (arith, byte_here c)
 
 sub-third : tie.Need-overflow-sub-third
 sub-third c = search rules
 
 mul-third : tie.Need-overflow-mul-third
-mul-third c = omega (arith, byte-here c)
+mul-third c = omega (arith, byte_here c)
 
 add-third : tie.Need-overflow-add-third
-add-third c = omega (arith, byte-here c)
+add-third c = omega (arith, byte_here c)
 
 third-requires : tie.Need-third-requires
-third-requires c κs = (omega (arith, byte-here c), search rules)
+third-requires c κs = (omega (arith, byte_here c), search rules)
 
 returns-3 : tie.Need-returns-3
 unfolding second_group
@@ -74,7 +74,7 @@ returns-3 c =
 returns-2 : tie.Need-returns-2
 unfolding second_group
 returns-2 c =
-    ap number-reading c.number-refused2.ensures
+    ap number_reading c.number-refused2.ensures
     ∙ simp (lt-leb _ _ c.before.before.before.if1.false, eq-eqb _ _ c.before.match.keys1)
 
 returns-4 : tie.Need-returns-4

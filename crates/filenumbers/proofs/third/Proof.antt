@@ -6,7 +6,7 @@ use lib.ListN.{get_or}
 use borrow.Author.Tests.{le-leb, lt-leb, lt-ltb, le-ltb, eq-eqb, ne_eqb}
 use borrow.Author.Rules.{rules}
 use Rattle.rules.specs.Number.{third_group}
-use Rattle.filenumbers.specs.Readings.{number-reading}
+use Rattle.filenumbers.specs.Readings.{number_reading}
 use Rattle.filenumbers.proofs.third.Statement.{statement}
 use Rattle.filenumbers.proofs.third.Tie as tie
 
@@ -18,7 +18,7 @@ number-refused-requires c κs = search rules
 
 returns : tie.Need-returns
 unfolding third_group
-returns c = ap number-reading c.number-refused.ensures ∙ simp (le-leb _ _ c.before.if1.true)
+returns c = ap number_reading c.number-refused.ensures ∙ simp (le-leb _ _ c.before.if1.true)
 
 shared-slice-read-b : tie.Need-shared-slice-read-b
 shared-slice-read-b c = search rules
@@ -54,7 +54,7 @@ returns-3 c =
 returns-2 : tie.Need-returns-2
 unfolding third_group
 returns-2 c =
-    ap number-reading c.number-refused2.ensures
+    ap number_reading c.number-refused2.ensures
     ∙ simp (lt-leb _ _ c.before.before.before.if1.false, eq-eqb _ _ c.before.match.keys1)
 
 returns-4 : tie.Need-returns-4
@@ -64,11 +64,11 @@ returns-4 c =
     let a = l.before.before.args in
     let b : ℕ = get_or a.s.now (a.start + 2) 0 in
     let large = le-ltb b 128 (omega (arith, c.before.if2.false)) in
-    ap number-reading c.number-refused3.ensures
+    ap number_reading c.number-refused3.ensures
     ∙ simp (lt-leb _ _ l.if1.false, ne_eqb _ _ c.before.before.match.rest.1, large)
 
-pub third-spec : {M : Type 1} → statement M
-third-spec =
+pub third_spec : {M : Type 1} → statement M
+third_spec =
     tie.close
     (tie.spec
     add-last

@@ -2,7 +2,7 @@
 use mathlib.Core.Path.{sym, ap, ◌∙◌}
 use borrow.Author.Rules.{rules}
 use Rattle.rules.specs.Network.{◌⟶◌}
-use Rattle.filearcs.specs.Readings.{arc-reading}
+use Rattle.filearcs.specs.Readings.{arc_reading}
 use Rattle.filepasses.proofs.one_arc.Statement.{statement}
 use Rattle.filepasses.proofs.one_arc.Tie as tie
 
@@ -25,7 +25,7 @@ enum-known-t : tie.Need-enum-known-t
 enum-known-t c = search rules
 
 returns-2 : tie.Need-returns-2
-returns-2 c = sym c.before.before.before.arc.ensures ∙ ap arc-reading c.before.t.given.1
+returns-2 c = sym c.before.before.before.arc.ensures ∙ ap arc_reading c.before.t.given.1
 
 enum-known-next-2 : tie.Need-enum-known-next-2
 enum-known-next-2 c = search rules
@@ -33,10 +33,10 @@ enum-known-next-2 c = search rules
 returns-3 : tie.Need-returns-3
 returns-3 c =
     let f = c.before.next2.given in
-    (f.0.0 ⟶ f.0.1.0, sym c.before.before.before.arc.ensures ∙ ap arc-reading f.1)
+    (f.0.0 ⟶ f.0.1.0, sym c.before.before.before.arc.ensures ∙ ap arc_reading f.1)
 
-pub one-arc-spec : {M : Type 1} → statement M
-one-arc-spec =
+pub one_arc_spec : {M : Type 1} → statement M
+one_arc_spec =
     tie.close
     (tie.spec
     quick-arc-requires

@@ -5,15 +5,15 @@ use native.Mathlib.Omega.{arith}
 use mathlib.Core.List.{List, [], ◌∷◌, ◌++◌}
 use mathlib.Core.Path.{◌≡◌, ◌∙◌}
 use borrow.Author.Rules.{rules}
-use Rattle.filepasses.proofs.ArcTurns.{ahead, ahead_none, turn-got, turn-bad, turns-over}
-use Rattle.rules.specs.File.{arcs-at}
+use Rattle.filepasses.proofs.ArcTurns.{ahead, ahead_none, turn_got, turn_bad, turns_over}
+use Rattle.rules.specs.File.{arcs_at}
 use Rattle.rules.specs.Network.{Arc}
 use Rattle.filepasses.proofs.scan.Statement.{statement}
 use Rattle.filepasses.proofs.scan.Tie as tie
 
 abbrev invariant-loop : tie.invariant-loop
 invariant-loop s zones arcs c₀ k₀ c k =
-    (k ≤ arcs) × (es : List Arc) × (arcs-at s zones arcs c₀.at ≡ ahead es (arcs-at s zones (arcs - k) c.at))
+    (k ≤ arcs) × (es : List Arc) × (arcs_at s zones arcs c₀.at ≡ ahead es (arcs_at s zones (arcs - k) c.at))
 
 abbrev decreases-loop : tie.decreases-loop
 decreases-loop s zones arcs c₀ k₀ c k = arcs - k
@@ -35,7 +35,7 @@ returns c =
     let a = c.before.before.before.before.before.before.before.args in
     let l = c.before.before.before.before.before.loop in
     let e = rw c.before.t.given.1 at c.before.before.before.one-arc.ensures in
-    l.invariant.2 ∙ turn-bad a.s.now a.zones a.arcs l.k l.c.at l.invariant.1 _ (omega arith) e
+    l.invariant.2 ∙ turn_bad a.s.now a.zones a.arcs l.k l.c.at l.invariant.1 _ (omega arith) e
 
 enum-known-next : tie.Need-enum-known-next invariant-loop decreases-loop
 enum-known-next c = search rules
@@ -53,17 +53,17 @@ loop-again c =
     let e = rw c.before.next.given.1 at c.before.before.before.one-arc.ensures in (
       search rules,
       l.invariant.1 ++ (e.0 ∷ []),
-      l.invariant.2 ∙ turn-got a.s.now a.zones a.arcs l.k l.c.at l.invariant.1 _ _ (omega arith) e.1,
+      l.invariant.2 ∙ turn_got a.s.now a.zones a.arcs l.k l.c.at l.invariant.1 _ _ (omega arith) e.1,
     )
 
 returns-2 : tie.Need-returns-2 invariant-loop decreases-loop
 returns-2 c =
     let a = c.before.before.before.args in
     let l = c.before.loop in
-    (l.invariant.1, l.invariant.2 ∙ turns-over a.s.now a.zones a.arcs l.k l.c.at l.invariant.1 (omega arith))
+    (l.invariant.1, l.invariant.2 ∙ turns_over a.s.now a.zones a.arcs l.k l.c.at l.invariant.1 (omega arith))
 
-pub scan-spec : {M : Type 1} → statement M
-scan-spec =
+pub scan_spec : {M : Type 1} → statement M
+scan_spec =
     tie.close
     (tie.spec
     invariant-loop

@@ -7,9 +7,9 @@ use lib.ListN.{length, length-set}
 use borrow.Author.Rules.{rules}
 use Rattle.rules.specs.Network.{◌⟶◌}
 use Rattle.rules.specs.Number.{got}
-use Rattle.rules.specs.File.{arc-at}
-use Rattle.filepasses.proofs.ArcsDue.{Due, due-tail, due-head, due-arc}
-use Rattle.filepasses.proofs.Partway.{Partway, partway_start, partway-turn, partway-due, partway_end}
+use Rattle.rules.specs.File.{arc_at}
+use Rattle.filepasses.proofs.ArcsDue.{Due, due_tail, due_head, due_arc}
+use Rattle.filepasses.proofs.Partway.{Partway, partway_start, partway_turn, partway_due, partway_end}
 use Rattle.filepasses.proofs.store.Statement.{statement}
 use Rattle.filepasses.proofs.store.Tie as tie
 
@@ -32,31 +32,31 @@ abbrev entry : Turn → tie.Start invariant-loop decreases-loop
 entry c = c.before.before.before.before.before
 
 -- an arc is due there
-turn-due : (c : Turn) → Due (entry c).args.s.now (entry c).args.zones c.before.loop.at
-turn-due c = partway-due c.before.loop.invariant.3 (omega arith) (entry c).requires.1.1
+turn_due : (c : Turn) → Due (entry c).args.s.now (entry c).args.zones c.before.loop.at
+turn_due c = partway_due c.before.loop.invariant.3 (omega arith) (entry c).requires.1.1
 
 -- the tail and the head that were read are those of the arc, and zones
-arc-read : (c : tie.After-known2 invariant-loop decreases-loop) →
+arc_read : (c : tie.After-known2 invariant-loop decreases-loop) →
     let l = c.before.before in
     let n = (entry l).args.zones in
     let t = c.before.known.result in
     let h = c.known2.result in
-    (arc-at (entry l).args.s.now n l.before.loop.at ≡ got (t.value ⟶ h.value) h.next)
+    (arc_at (entry l).args.s.now n l.before.loop.at ≡ got (t.value ⟶ h.value) h.next)
     × (t.value < n)
     × (h.value < n)
-arc-read c = due-arc (turn-due c.before.before) c.before.known.ensures c.known2.ensures
+arc_read c = due_arc (turn_due c.before.before) c.before.known.ensures c.known2.ensures
 
 loop-holds : tie.Need-loop-init invariant-loop decreases-loop
 loop-holds c = (search rules, refl, refl, partway_start)
 
 known-requires : tie.Need-known-requires invariant-loop decreases-loop
-known-requires c κs = due-tail (turn-due c) (entry c).requires.0
+known-requires c κs = due_tail (turn_due c) (entry c).requires.0
 
 known-requires-2 : tie.Need-known-requires-2 invariant-loop decreases-loop
-known-requires-2 c κs = due-head (turn-due c.before) c.known.ensures (entry c.before).pre.0
+known-requires-2 c κs = due_head (turn_due c.before) c.known.ensures (entry c.before).pre.0
 
 cast-tails : tie.Need-overflow-cast-tails invariant-loop decreases-loop
-cast-tails c = omega (arith, arc-read c.before)
+cast-tails c = omega (arith, arc_read c.before)
 
 mul-tails : tie.Need-overflow-mul-tails invariant-loop decreases-loop
 mul-tails c = search rules
@@ -65,7 +65,7 @@ slice-write-tails : tie.Need-slice-write-tails invariant-loop decreases-loop
 slice-write-tails c = search rules
 
 cast-heads : tie.Need-overflow-cast-heads invariant-loop decreases-loop
-cast-heads c = omega (arith, arc-read c.before.before)
+cast-heads c = omega (arith, arc_read c.before.before)
 
 mul-heads : tie.Need-overflow-mul-heads invariant-loop decreases-loop
 mul-heads c = search rules
@@ -86,7 +86,7 @@ loop-again c =
       search rules,
       simp length-set l.invariant.1,
       simp length-set l.invariant.2,
-      partway-turn l.invariant.3 (omega arith) (omega arith) (omega arith) (arc-read r).0,
+      partway_turn l.invariant.3 (omega arith) (omega arith) (omega arith) (arc_read r).0,
     )
 
 same_length : tie.Need-same-length invariant-loop decreases-loop

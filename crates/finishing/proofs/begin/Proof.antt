@@ -4,8 +4,8 @@ use native.Mathlib.Omega.{arith}
 use Prim.Native.Nat.{◌+◌}
 use mathlib.Core.Path.{◌≡◌, refl, ◌∙◌}
 use lib.ListN.{get_or, length-set}
-use Rattle.descent.proofs.Keeping.{order-kept-then, ready-kept, spans}
-use Rattle.finishing.proofs.Start.{start-kept, start-marked, start-state}
+use Rattle.descent.proofs.Keeping.{order_kept_then, ready_kept, spans}
+use Rattle.finishing.proofs.Start.{start_kept, start_marked, start_state}
 use borrow.Author.Rules.{rules}
 use Rattle.finishing.proofs.begin.Statement.{statement}
 use Rattle.finishing.proofs.begin.Tie as tie
@@ -60,8 +60,8 @@ slice-write-work-2 c = simp length-set (omega (arith, spans c.before.before.befo
 deepen-requires : tie.Need-deepen-requires
 deepen-requires c κs =
     let s = c.before.before.before.before in (
-      ready-kept s.requires.0 (start-kept s.requires.0 s.requires.1.1 s.requires.1.0 (free c.before) refl),
-      (search rules, start-state s.requires.0 s.requires.1.1 s.requires.1.0 (free c.before) refl),
+      ready_kept s.requires.0 (start_kept s.requires.0 s.requires.1.1 s.requires.1.0 (free c.before) refl),
+      (search rules, start_state s.requires.0 s.requires.1.1 s.requires.1.0 (free c.before) refl),
     )
 
 -- The memory keeps its length.
@@ -76,16 +76,16 @@ returns-2 c =
     let s = f.before.before.before in
     let a = s.args in
     record {
-      kept = order-kept-then (start-kept s.requires.0 s.requires.1.1 s.requires.1.0 (free f) refl)
+      kept = order_kept_then (start_kept s.requires.0 s.requires.1.1 s.requires.1.0 (free f) refl)
           d.deepen.ensures.0;
       state = d.deepen.ensures.1;
       first = d.deepen.ensures.0.more s.args.r s.requires.1.0
-          (start-marked s.requires.0 s.requires.1.1 s.requires.1.0 (free f) refl);
+          (start_marked s.requires.0 s.requires.1.1 s.requires.1.0 (free f) refl);
     }
 
 -- The function meets its contract.
-pub begin-spec : {M : Type 1} → statement M
-begin-spec =
+pub begin_spec : {M : Type 1} → statement M
+begin_spec =
     tie.close
     (tie.spec
     add-m

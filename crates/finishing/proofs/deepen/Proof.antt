@@ -4,16 +4,16 @@ use borrow.Author.Rules.{rules}
 use native.Mathlib.Omega.{arith}
 use Prim.Native.Nat.{◌-◌}
 use mathlib.Core.Path.{◌≡◌, refl}
-use Rattle.descent.specs.Memory.{State, Order-kept}
-use Rattle.descent.proofs.Keeping.{kept-none, order-kept-then, ready-kept}
-use Rattle.finishing.proofs.Up.{pop_kept, pop-state}
+use Rattle.descent.specs.Memory.{State, OrderKept}
+use Rattle.descent.proofs.Keeping.{kept_none, order_kept_then, ready_kept}
+use Rattle.finishing.proofs.Up.{pop_kept, pop_state}
 use Rattle.finishing.proofs.deepen.Statement.{statement}
 use Rattle.finishing.proofs.deepen.Tie as tie
 
 -- what every turn of the loop keeps
 abbrev invariant-loop : tie.invariant-loop
 invariant-loop work₀ rows at ended lo₀ hi₀ work lo hi =
-    Order-kept work₀ work rows at × State work rows at lo hi
+    OrderKept work₀ work rows at × State work rows at lo hi
 
 -- what every turn of the loop makes smaller
 abbrev decreases-loop : tie.decreases-loop
@@ -25,13 +25,13 @@ sub-hi c = search rules
 
 -- The invariant holds where the loop begins.
 loop-holds : tie.Need-loop-init invariant-loop decreases-loop
-loop-holds c = (kept-none _ _ _, c.before.before.requires.1.1)
+loop-holds c = (kept_none _ _ _, c.before.before.requires.1.1)
 
 -- What `descend` asks for is so.
 descend-requires : tie.Need-descend-requires invariant-loop decreases-loop
 descend-requires c κs =
     let l = c.before.before.before in
-    (ready-kept l.before.before.before.requires.0 l.loop.invariant.0, (search rules, l.loop.invariant.1))
+    (ready_kept l.before.before.before.requires.0 l.loop.invariant.0, (search rules, l.loop.invariant.1))
 
 -- Sums and casts keep in range, and places are inside the memory.
 add-z : tie.Need-overflow-add-z invariant-loop decreases-loop
@@ -68,10 +68,10 @@ loop-again c =
     let d = c.before.before.before in
     let l = d.before.before.before.before in
     let y = d.descend.ensures in
-    let K = order-kept-then l.loop.invariant.0 y.0.kept in
-    let R = ready-kept l.before.before.before.requires.0 K in (
-      order-kept-then K (pop_kept R y.0.state y.0.top y.1 refl),
-      pop-state R y.0.state y.0.top y.1 refl,
+    let K = order_kept_then l.loop.invariant.0 y.0.kept in
+    let R = ready_kept l.before.before.before.requires.0 K in (
+      order_kept_then K (pop_kept R y.0.state y.0.top y.1 refl),
+      pop_state R y.0.state y.0.top y.1 refl,
     )
 
 -- The memory keeps its length.
@@ -86,8 +86,8 @@ returns c =
     (l.loop.invariant.0, rw e at l.loop.invariant.1)
 
 -- The function meets its contract.
-pub deepen-spec : {M : Type 1} → statement M
-deepen-spec =
+pub deepen_spec : {M : Type 1} → statement M
+deepen_spec =
     tie.close
     (tie.spec
     invariant-loop

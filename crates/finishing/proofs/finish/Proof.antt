@@ -2,8 +2,8 @@
 -- Assumes nothing.
 use borrow.Author.Rules.{rules}
 use native.Mathlib.Omega.{arith}
-use Rattle.descent.proofs.Keeping.{order-kept-then, ready-kept, spans}
-use Rattle.finishing.proofs.Start.{copy-kept, copy-begun}
+use Rattle.descent.proofs.Keeping.{order_kept_then, ready_kept, spans}
+use Rattle.finishing.proofs.Start.{copy_kept, copy_begun}
 use Rattle.finishing.proofs.finish.Statement.{statement}
 use Rattle.finishing.proofs.finish.Tie as tie
 
@@ -11,15 +11,15 @@ use Rattle.finishing.proofs.finish.Tie as tie
 copy-requires : tie.Need-copy-requires
 copy-requires c κs =
     let R = c.before.before.requires.0 in
-    record { apart = omega (arith, R.before, R.order-before); fits = omega (arith, spans R) }
+    record { apart = omega (arith, R.before, R.order_before); fits = omega (arith, spans R) }
 
 -- What `begin_all` asks for is so.
 begin-all-requires : tie.Need-begin-all-requires
 begin-all-requires c κs =
     let d = c.before.before.before in
     let s = d.before.before.before in (
-      ready-kept s.requires.0 (copy-kept s.requires.0 s.requires.1 d.copy.ensures),
-      copy-begun s.requires.0 s.requires.1 d.copy.ensures,
+      ready_kept s.requires.0 (copy_kept s.requires.0 s.requires.1 d.copy.ensures),
+      copy_begun s.requires.0 s.requires.1 d.copy.ensures,
     )
 
 -- The memory keeps its length.
@@ -32,8 +32,8 @@ returns c =
     let e = c.before.before in
     let d = e.before.before.before.before in
     let s = d.before.before.before in
-    let K = copy-kept s.requires.0 s.requires.1 d.copy.ensures in
-    (order-kept-then K e.begin-all.ensures.0, e.begin-all.ensures.1)
+    let K = copy_kept s.requires.0 s.requires.1 d.copy.ensures in
+    (order_kept_then K e.begin-all.ensures.0, e.begin-all.ensures.1)
 
 -- The function meets its contract.
 pub finish_spec : {M : Type 1} → statement M

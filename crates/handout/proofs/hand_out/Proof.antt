@@ -20,7 +20,7 @@ copy-out-requires : tie.Need-copy-out-requires
 copy-out-requires c κs =
     let s = c.before.before.before.before.before in
     let p = s.requires in
-    (omega (arith, p.starts, p.ends, p.whys), p.from-room)
+    (omega (arith, p.starts, p.ends, p.whys), p.from_room)
 
 copy-out-requires-2 : tie.Need-copy-out-requires-2
 copy-out-requires-2 c κs =
@@ -30,7 +30,7 @@ copy-out-requires-2 c κs =
 copy-out-requires-3 : tie.Need-copy-out-requires-3
 copy-out-requires-3 c κs =
     let p = (one (two c.before.before.before)).requires in
-    (omega (arith, p.starts, p.ends, p.whys), p.why-room)
+    (omega (arith, p.starts, p.ends, p.whys), p.why_room)
 
 same_length : tie.Need-same-length
 same_length c = search rules
@@ -45,13 +45,13 @@ returns : tie.Need-returns
 returns c =
     let g = c.before.before in
     record {
-      starts-out = (two (three g)).copy-out.ensures;
-      ends-out = (three g).copy-out2.ensures;
-      whys-out = g.copy-out3.ensures;
+      starts_out = (two (three g)).copy-out.ensures;
+      ends_out = (three g).copy-out2.ensures;
+      whys_out = g.copy-out3.ensures;
     }
 
-pub hand-out-spec : {M : Type 1} → statement M
-hand-out-spec =
+pub hand_out_spec : {M : Type 1} → statement M
+hand_out_spec =
     tie.close
     (tie.spec
     copy-out-requires

@@ -7,17 +7,17 @@ use mathlib.Core.List.{List}
 use lib.ListN.{length, get_or}
 use borrow.Author.Rules.{rules}
 use Rattle.zoneset.specs.Held.{held}
-use Rattle.probes.proofs.Chains.{found-says}
-use Rattle.intake.proofs.Along.{rest, rest-fine, rest-bad, rest-none}
+use Rattle.probes.proofs.Chains.{found_says}
+use Rattle.intake.proofs.Along.{rest, rest_fine, rest_bad, rest_none}
 use Rattle.rules.specs.Network.{◌⟶◌}
-use Rattle.rules.specs.Calls.{Test, first-trouble, arc-tests}
+use Rattle.rules.specs.Calls.{Test, first_trouble, arc_tests}
 use Rattle.intake.proofs.arcs.Statement.{statement}
 use Rattle.intake.proofs.arcs.Tie as tie
 
 abbrev invariant-loop : tie.invariant-loop
 invariant-loop zones tails heads gone i₀ i =
     (i ≤ length tails)
-    × (first-trouble (rest zones (held gone) 0 tails heads) ≡ first-trouble (rest zones (held gone) i tails heads))
+    × (first_trouble (rest zones (held gone) 0 tails heads) ≡ first_trouble (rest zones (held gone) i tails heads))
 
 abbrev decreases-loop : tie.decreases-loop
 decreases-loop zones tails heads gone i₀ i = length tails - i
@@ -26,10 +26,10 @@ loop-holds : tie.Need-loop-init invariant-loop decreases-loop
 loop-holds c = (search rules, refl)
 
 -- the tests of the arc at i
-abbrev arc-here : tie.Start invariant-loop decreases-loop → ℕ → List Test
-arc-here s i =
+abbrev arc_here : tie.Start invariant-loop decreases-loop → ℕ → List Test
+arc_here s i =
     let a = s.args in
-    arc-tests a.zones i (get_or a.tails.now i 0 ⟶ get_or a.heads.now i 0) (held a.gone.now)
+    arc_tests a.zones i (get_or a.tails.now i 0 ⟶ get_or a.heads.now i 0) (held a.gone.now)
 
 mul-arc : tie.Need-overflow-mul-arc invariant-loop decreases-loop
 mul-arc c = search rules
@@ -54,12 +54,12 @@ returns c =
     let s = c.before.before.before.before.before.before.before.before.before.before.before in
     let a = s.args in
     let l = c.before.before.before.before.before.before.before.loop in
-    let e = found-says {xs = arc-here s l.i} c.before.before.before.arc.ensures c.before.r.given.1 in
+    let e = found_says {xs = arc_here s l.i} c.before.before.before.arc.ensures c.before.r.given.1 in
     record {
       first =
           sym
           (l.invariant.1
-          ∙ rest-bad a.zones (held a.gone.now) l.i a.tails.now a.heads.now (omega arith) (omega arith)
+          ∙ rest_bad a.zones (held a.gone.now) l.i a.tails.now a.heads.now (omega arith) (omega arith)
           e);
     }
 
@@ -77,10 +77,10 @@ loop-again c =
     let s = c.before.before.before.before.before.before.before.before.before.before in
     let a = s.args in
     let l = c.before.before.before.before.before.before.loop in
-    let e = found-says {xs = arc-here s l.i} c.before.before.arc.ensures c.enum_told.given.1 in (
+    let e = found_says {xs = arc_here s l.i} c.before.before.arc.ensures c.enum_told.given.1 in (
       search rules,
       l.invariant.1
-          ∙ rest-fine a.zones (held a.gone.now) l.i a.tails.now a.heads.now
+          ∙ rest_fine a.zones (held a.gone.now) l.i a.tails.now a.heads.now
           (omega arith) (omega arith) e,
     )
 
@@ -88,11 +88,11 @@ returns-2 : tie.Need-returns-2 invariant-loop decreases-loop
 returns-2 c =
     let a = c.before.before.before.before.before.args in
     let l = c.before.loop in
-    let none_left = rest-none a.zones (held a.gone.now) l.i a.tails.now a.heads.now (omega arith) in
+    let none_left = rest_none a.zones (held a.gone.now) l.i a.tails.now a.heads.now (omega arith) in
     record { first = sym (l.invariant.1 ∙ none_left) }
 
-pub arcs-spec : {M : Type 1} → statement M
-arcs-spec =
+pub arcs_spec : {M : Type 1} → statement M
+arcs_spec =
     tie.close
     (tie.spec
     invariant-loop

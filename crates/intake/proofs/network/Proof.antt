@@ -6,11 +6,11 @@ use native.Mathlib.Omega.{arith}
 use lib.ListN.{length}
 use lib.Seq.{length-take-le}
 use borrow.Author.Rules.{rules}
-use Rattle.rules.specs.Calls.{first-trouble, arcs-of}
-use Rattle.theory.proofs.Files.Troubles.{none-not-some}
-use Rattle.probes.proofs.Chains.{found-stays, found-goes-on, found-says}
-use Rattle.intake.specs.Taken.{first-tests}
-use Rattle.intake.proofs.Leading.{network-told, first-paired, first_below, arcs-told}
+use Rattle.rules.specs.Calls.{first_trouble, arcs_of}
+use Rattle.theory.proofs.Files.Troubles.{none_not_some}
+use Rattle.probes.proofs.Chains.{found_stays, found_goes_on, found_says}
+use Rattle.intake.specs.Taken.{first_tests}
+use Rattle.intake.proofs.Leading.{network_told, first_paired, first_below, arcs_told}
 use Rattle.intake.proofs.network.Statement.{statement}
 use Rattle.intake.proofs.network.Tie as tie
 
@@ -25,8 +25,8 @@ entry c = c.before.before.before.before.before.before
 -- so they have no trouble
 none_here : (c : Here) →
     let a = (entry c).args in
-    first-trouble (first-tests a.zones a.tails.now a.heads.now a.gone.now) ≡ none
-none_here c = found-says c.before.before.first-tests.ensures c.enum_told.given.1
+    first_trouble (first_tests a.zones a.tails.now a.heads.now a.gone.now) ≡ none
+none_here c = found_says c.before.before.first-tests.ensures c.enum_told.given.1
 
 fill-requires : tie.Need-fill-requires
 fill-requires c κs =
@@ -51,7 +51,7 @@ arcs-requires : tie.Need-arcs-requires
 arcs-requires c κs =
     let h = c.before.before.before in
     let a = (entry h).args in
-    first-paired a.zones a.tails.now a.heads.now a.gone.now (none_here h)
+    first_paired a.zones a.tails.now a.heads.now a.gone.now (none_here h)
 
 returns-2 : tie.Need-returns-2
 returns-2 c =
@@ -62,12 +62,12 @@ returns-2 c =
     let filled = f.fill.ensures in
     let sixteen : length f.fill.result ≡ 16 = search rules in
     let looked = u.used.ensures.holds f.fill.result sixteen filled in
-    let es = arcs-of a.tails.now a.heads.now in
-    let told = arcs-told a.zones es a.gone.now _ looked c.arcs.ensures in
+    let es = arcs_of a.tails.now a.heads.now in
+    let told = arcs_told a.zones es a.gone.now _ looked c.arcs.ensures in
     record {
-      found-by =
-          network-told a.zones a.tails.now a.heads.now a.gone.now
-          h.before.before.first-tests.ensures (found-goes-on h.enum_told.given.1 told);
+      found_by =
+          network_told a.zones a.tails.now a.heads.now a.gone.now
+          h.before.before.first-tests.ensures (found_goes_on h.enum_told.given.1 told);
       set = λ e. filled;
     }
 
@@ -77,10 +77,10 @@ returns c =
     let f = k.before.before in
     let a = f.before.before.before.before.args in
     record {
-      found-by =
-          network-told a.zones a.tails.now a.heads.now a.gone.now
-          f.first-tests.ensures (found-stays _ k.counted.given.1);
-      set = λ e. absurd (none-not-some e refl);
+      found_by =
+          network_told a.zones a.tails.now a.heads.now a.gone.now
+          f.first-tests.ensures (found_stays _ k.counted.given.1);
+      set = λ e. absurd (none_not_some e refl);
     }
 
 first-tests-requires : tie.Need-first-tests-requires
@@ -95,8 +95,8 @@ empty-requires c κs = search rules
 enum_told : tie.Need-enum-told
 enum_told c = search rules
 
-pub network-spec : {M : Type 1} → statement M
-network-spec =
+pub network_spec : {M : Type 1} → statement M
+network_spec =
     tie.close
     (tie.spec
     first-tests-requires

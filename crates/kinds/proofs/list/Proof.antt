@@ -7,7 +7,7 @@ use mathlib.Core.Logic.{⊎_elim}
 use Prim.Native.Nat.{◌+◌, ◌-◌, ◌≤◌, ◌<◌}
 use lib.ListN.{length}
 use Rattle.kinds.specs.Lists.{Listing}
-use Rattle.kinds.proofs.Turns.{list-none, list-room, list-long, list-few, list-skip, list_put}
+use Rattle.kinds.proofs.Turns.{list_none, list_room, list_long, list_few, list_skip, list_put}
 use Rattle.kinds.proofs.list.Statement.{statement}
 use Rattle.kinds.proofs.list.Tie as tie
 
@@ -28,21 +28,21 @@ fits : (c : tie.After-of-kind invariant-loop decreases-loop) →
 fits c =
     let l = turn c in
     let s = l.before.before in
-    let few = list-few s.pre l.loop.inv.1 l.loop.inv.0 in
-    let long = list-long s.pre l.loop.inv.1 l.loop.inv.0 in
+    let few = list_few s.pre l.loop.inv.1 l.loop.inv.0 in
+    let long = list_long s.pre l.loop.inv.1 l.loop.inv.0 in
     let inside = c.before.before.if1.true in
     (omega (arith, few, long, inside, s.pre.fits), omega (arith, few, inside))
 
 loop-holds : tie.Need-loop-init invariant-loop decreases-loop
 loop-holds c =
     let a = c.before.args in
-    (omega arith, list-none a.at a.x a.y a.to a.work.now)
+    (omega arith, list_none a.at a.x a.y a.to a.work.now)
 
 of-kind-requires : tie.Need-of-kind-requires invariant-loop decreases-loop
 of-kind-requires c κs =
     let l = c.before.before.before in
     let s = l.before.before in
-    (list-room s.requires l.loop.invariant.1 l.loop.invariant.0, omega arith)
+    (list_room s.requires l.loop.invariant.1 l.loop.invariant.0, omega arith)
 
 cast-work : tie.Need-overflow-cast-work invariant-loop decreases-loop
 cast-work c = omega (arith, (turn c.before).before.before.pre.room.small)
@@ -78,7 +78,7 @@ loop-again c =
           (list_put s.pre l.loop.inv.1 l.loop.inv.0 inside (sym k.of-kind.ensures ∙ m.0.taken)))
           (λ m.
           rw (m.1, m.2)
-          (list-skip s.pre l.loop.inv.1 l.loop.inv.0 inside (sym k.of-kind.ensures ∙ m.0.left)))
+          (list_skip s.pre l.loop.inv.1 l.loop.inv.0 inside (sym k.of-kind.ensures ∙ m.0.left)))
           c.if2.branch,
     )
 
@@ -86,7 +86,7 @@ same_length : tie.Need-same-length invariant-loop decreases-loop
 same_length c =
     let l = c.before.before in
     let s = l.before.before in
-    list-long s.requires l.loop.invariant.1 l.loop.invariant.0
+    list_long s.requires l.loop.invariant.1 l.loop.invariant.0
 
 returns : tie.Need-returns invariant-loop decreases-loop
 returns c =
@@ -94,8 +94,8 @@ returns c =
     let e : l.loop.z ≡ l.before.before.args.at.zones = omega (arith, c.if1.false, l.loop.invariant.0) in
     rw e at l.loop.invariant.1
 
-pub list-spec : {M : Type 1} → statement M
-list-spec =
+pub list_spec : {M : Type 1} → statement M
+list_spec =
     tie.close
     (tie.spec
     invariant-loop

@@ -1,7 +1,7 @@
 -- `of_kind` meets its contract: it goes through the three tests of `own-kind`, one after the other. Assumes
 -- nothing.
 use borrow.Author.Rules.{rules}
-use Rattle.borders.proofs.Tests.{own-name-no, own-entered-no, own-exited}
+use Rattle.borders.proofs.Tests.{own_name_no, own_entered_no, own_exited}
 use Rattle.kinds.proofs.of_kind.Statement.{statement}
 use Rattle.kinds.proofs.of_kind.Tie as tie
 
@@ -21,7 +21,7 @@ returns : tie.Need-returns
 returns c =
     let a = c.before in
     let s = a.before.before.before.args in
-    own-name-no s.at s.x s.y s.work.now s.z (rw a.wide.ensures at c.if1.true)
+    own_name_no s.at s.x s.y s.work.now s.z (rw a.wide.ensures at c.if1.true)
 
 add-if2 : tie.Need-overflow-add-if2
 add-if2 c = search rules
@@ -37,7 +37,7 @@ returns-2 c =
     let b = c.before.before in
     let a = b.before in
     let s = a.before.before.before.args in
-    own-entered-no s.at s.x s.y s.work.now s.z (rw a.wide.ensures at b.if1.false)
+    own_entered_no s.at s.x s.y s.work.now s.z (rw a.wide.ensures at b.if1.false)
     c.if2.true
 
 add-result : tie.Need-overflow-add-result
@@ -55,10 +55,10 @@ returns-3 c =
     let b = d.before.before in
     let a = b.before in
     let s = a.before.before.before.args in
-    own-exited s.at s.x s.y s.work.now s.z (rw a.wide.ensures at b.if1.false) d.if2.false
+    own_exited s.at s.x s.y s.work.now s.z (rw a.wide.ensures at b.if1.false) d.if2.false
 
-pub of-kind-spec : {M : Type 1} → statement M
-of-kind-spec =
+pub of_kind_spec : {M : Type 1} → statement M
+of_kind_spec =
     tie.close
     (tie.spec
     add_wide

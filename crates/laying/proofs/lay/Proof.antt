@@ -2,7 +2,7 @@
 -- picked. Assumes nothing.
 use mathlib.Core.Path.{refl}
 use Prim.Native.Nat.{◌+◌, ◌≤◌}
-use Rattle.laying.proofs.Laying.{own-map, sums-small, laid-strong, rule-able, rule-laid}
+use Rattle.laying.proofs.Laying.{own_map, sums_small, laid_strong, rule_able, rule_laid}
 use borrow.Author.Rules.{rules}
 use native.Mathlib.Omega.{arith}
 use Rattle.laying.proofs.lay.Statement.{statement}
@@ -25,17 +25,17 @@ small : (c : Here) →
     c.survey.result.sources + c.survey.result.sinks + c.survey.result.alone ≤ (start c).args.m.zones
 small c =
     let a = (start c).args in
-    sums-small a.m a.tails.now a.heads.now a.gone.now a.work.now (start c).requires
+    sums_small a.m a.tails.now a.heads.now a.gone.now a.work.now (start c).requires
     c.survey.new.1.1.1.1.0 c.survey.result c.survey.ensures
 
 survey-requires : tie.Need-survey-requires
 survey-requires c κs = search rules
 
 add-if1 : tie.Need-overflow-add-if1
-add-if1 c = omega (arith, small (here c), (start (here c)).requires.fine.fine.accepted.zones-most)
+add-if1 c = omega (arith, small (here c), (start (here c)).requires.fine.fine.accepted.zones_most)
 
 add-if1-2 : tie.Need-overflow-add-if1-2
-add-if1-2 c = omega (arith, small (here c), (start (here c)).requires.fine.fine.accepted.zones-most)
+add-if1-2 c = omega (arith, small (here c), (start (here c)).requires.fine.fine.accepted.zones_most)
 
 layout-of-requires : tie.Need-layout-of-requires
 layout-of-requires c κs = search rules
@@ -48,14 +48,14 @@ returns c =
     let d = here c.before.before in
     let a = (start d).args in
     rw c.layout_of.ensures
-    (laid-strong a.m a.tails.now a.heads.now a.gone.now a.work.now (start d).pre
+    (laid_strong a.m a.tails.now a.heads.now a.gone.now a.work.now (start d).pre
     d.survey.last.1.1.1.1.0 d.survey.result d.survey.ensures c.before.if1.true _ refl refl)
 
 side-of-requires : tie.Need-side-of-requires
 side-of-requires c κs =
     let d = here c.before in
     let a = (start d).args in
-    own-map a.m a.tails.now a.heads.now a.gone.now a.work.now (start d).pre
+    own_map a.m a.tails.now a.heads.now a.gone.now a.work.now (start d).pre
     d.survey.last.1.1.1.1.0 d.survey.result d.survey.ensures
 
 lesser-requires : tie.Need-lesser-requires
@@ -72,7 +72,7 @@ connect-requires c κs =
     let d = here x.before.before in
     let a = (start d).args in (
       _,
-      rule-able a.m a.tails.now a.heads.now a.gone.now a.work.now (start d).pre
+      rule_able a.m a.tails.now a.heads.now a.gone.now a.work.now (start d).pre
           d.survey.last.1.1.1.1.0 d.survey.result d.survey.ensures x.before.if1.false
           x.side-of.result x.side-of.ensures
           l.lesser.result g.greater.result l.lesser.ensures g.greater.ensures,
@@ -93,18 +93,18 @@ returns-2 c =
     let d = here x.before.before in
     let a = (start d).args in
     let able =
-    rule-able a.m a.tails.now a.heads.now a.gone.now a.work.now (start d).pre
+    rule_able a.m a.tails.now a.heads.now a.gone.now a.work.now (start d).pre
     d.survey.last.1.1.1.1.0 d.survey.result d.survey.ensures x.before.if1.false
     x.side-of.result x.side-of.ensures
     l.lesser.result g.greater.result l.lesser.ensures g.greater.ensures
     in
     rw c.layout-of2.ensures
-    (rule-laid a.m a.tails.now a.heads.now a.gone.now a.work.now (start d).pre
+    (rule_laid a.m a.tails.now a.heads.now a.gone.now a.work.now (start d).pre
     d.survey.last.1.1.1.1.0 d.survey.result d.survey.ensures x.before.if1.false
     x.side-of.result x.side-of.ensures f.connect.new.0 f.connect.result (f.connect.ensures _ able))
 
-pub lay-spec : {M : Type 1} → statement M
-lay-spec =
+pub lay_spec : {M : Type 1} → statement M
+lay_spec =
     tie.close
     (tie.spec
     survey-requires

@@ -8,7 +8,7 @@ use borrow.Author.Rules.{rules}
 use lib.ListN.{length}
 use Rattle.buffer.specs.Put.{Written}
 use Rattle.lines.specs.Lines.{lines_of}
-use Rattle.lines.proofs.Links.{lines_start, lines-room, lines_more}
+use Rattle.lines.proofs.Links.{lines_start, lines_room, lines_more}
 use Rattle.lines.proofs.put_lines.Statement.{statement}
 use Rattle.lines.proofs.put_lines.Tie as tie
 
@@ -79,11 +79,11 @@ put-link-requires c κs =
     let l = c.before.before.before.before.before in
     let s = l.before.before.before.before.before in
     let a = s.args in
-    lines-room a.from.now a.to.now a.why.now l.loop.i a.count
+    lines_room a.from.now a.to.now a.why.now l.loop.i a.count
     c.before.before.before.before.loop-test.true s.requires.1 l.loop.invariant.1
 
-pub put-lines-spec : {M : Type 1} → statement M
-put-lines-spec =
+pub put_lines_spec : {M : Type 1} → statement M
+put_lines_spec =
     tie.close
     (tie.spec
     invariant-loop

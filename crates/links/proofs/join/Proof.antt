@@ -35,8 +35,8 @@ returns c =
     joined a.work.now e.copy.new.0 f.copy2.new.0 g.fill.new.0 a.p a.a a.b a.n
     a.reason a.at s.requires e.copy.ensures f.copy2.ensures g.fill.ensures
 
-pub join-spec : {M : Type 1} → statement M
-join-spec =
+pub join_spec : {M : Type 1} → statement M
+join_spec =
     tie.close
     (tie.spec
     add-copy

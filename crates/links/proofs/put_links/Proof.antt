@@ -5,7 +5,7 @@ use mathlib.Core.Path.{◌≡◌}
 use mathlib.Core.List.{List}
 use lib.ListN.{length}
 use Rattle.links.specs.Stores.{Joinable}
-use Rattle.links.proofs.Written.{memory-long, all-few, ring-joinable, chain-joinable, back-joinable, linked}
+use Rattle.links.proofs.Written.{memory_long, all_few, ring_joinable, chain_joinable, back_joinable, linked}
 use borrow.Author.Rules.{rules}
 use native.Mathlib.Omega.{arith}
 use Rattle.links.proofs.put_links.Statement.{statement}
@@ -32,62 +32,62 @@ abbrev steps : Counted → ℕ
 steps c = (put c).put-stations.result - c.one-of2.result
 
 -- as many rings as pairs, less one
-rings-is : (c : Counted) → rings c ≡ (start c).args.n.pairs - 1
-rings-is c = omega (arith, c.before.before.one_of.ensures)
+rings_is : (c : Counted) → rings c ≡ (start c).args.n.pairs - 1
+rings_is c = omega (arith, c.before.before.one_of.ensures)
 
 -- as many steps as stations, less one
-steps-is : (c : Counted) → steps c ≡ (put c).put-stations.result - 1
-steps-is c = omega (arith, c.one-of2.ensures)
+steps_is : (c : Counted) → steps c ≡ (put c).put-stations.result - 1
+steps_is c = omega (arith, c.one-of2.ensures)
 
 -- the memory keeps its length
 long : (c : Counted) → length (put c).put-stations.new.0 ≡ length (start c).args.work.now
 long c =
     let a = (start c).args in
     let m = (put c).put-stations in
-    memory-long a.work.now a.n a.p (start c).requires.placed m.last.0 m.result m.ensures
+    memory_long a.work.now a.n a.p (start c).requires.placed m.last.0 m.result m.ensures
 
 -- rings, steps and links back are no more than the zones
 few : (c : Counted) → rings c + steps c + (start c).args.n.sources ≤ (start c).args.p.rows.zones
 few c =
     let a = (start c).args in
     let m = (put c).put-stations in
-    all-few a.work.now a.n a.p (start c).requires.placed m.last.0 m.result m.ensures
-    (start c).requires (rings c) (steps c) (rings-is c) (steps-is c)
+    all_few a.work.now a.n a.p (start c).requires.placed m.last.0 m.result m.ensures
+    (start c).requires (rings c) (steps c) (rings_is c) (steps_is c)
 
 -- the links so far are no more than a number of the machine
 small : (c : Counted) → rings c + steps c + (start c).args.n.sources ≤ length (start c).args.work.now
-small c = omega (arith, few c, (start c).requires.placed.why-fits)
+small c = omega (arith, few c, (start c).requires.placed.why_fits)
 
 -- there is room for the rings
-ring-room : (c : Counted) (u : List ℕ) → length u ≡ length (start c).args.work.now →
+ring_room : (c : Counted) (u : List ℕ) → length u ≡ length (start c).args.work.now →
     Joinable u (start c).args.p.links (start c).args.p.pairs.seconds ((start c).args.p.pairs.firsts + 1)
     (rings c) 0
-ring-room c =
+ring_room c =
     let a = (start c).args in
     let m = (put c).put-stations in
-    ring-joinable a.work.now a.n a.p (start c).requires.placed m.last.0 m.result m.ensures
-    (start c).requires (rings c) (steps c) (rings-is c) (steps-is c)
+    ring_joinable a.work.now a.n a.p (start c).requires.placed m.last.0 m.result m.ensures
+    (start c).requires (rings c) (steps c) (rings_is c) (steps_is c)
 
 -- there is room for the chain
-chain-room : (c : Counted) (u : List ℕ) → length u ≡ length (start c).args.work.now →
+chain_room : (c : Counted) (u : List ℕ) → length u ≡ length (start c).args.work.now →
     Joinable u (start c).args.p.links (start c).args.p.links.stations ((start c).args.p.links.stations + 1)
     (steps c) (rings c)
-chain-room c =
+chain_room c =
     let a = (start c).args in
     let m = (put c).put-stations in
-    chain-joinable a.work.now a.n a.p (start c).requires.placed m.last.0 m.result m.ensures
-    (start c).requires (rings c) (steps c) (rings-is c) (steps-is c)
+    chain_joinable a.work.now a.n a.p (start c).requires.placed m.last.0 m.result m.ensures
+    (start c).requires (rings c) (steps c) (rings_is c) (steps_is c)
 
 -- there is room for the links back
-back-room : (c : Counted) (u : List ℕ) → length u ≡ length (start c).args.work.now →
+back_room : (c : Counted) (u : List ℕ) → length u ≡ length (start c).args.work.now →
     Joinable u (start c).args.p.links (start c).args.p.lists.sinks (start c).args.p.pairs.lone
     (start c).args.n.sources
     (rings c + steps c)
-back-room c =
+back_room c =
     let a = (start c).args in
     let m = (put c).put-stations in
-    back-joinable a.work.now a.n a.p (start c).requires.placed m.last.0 m.result m.ensures
-    (start c).requires (rings c) (steps c) (rings-is c) (steps-is c)
+    back_joinable a.work.now a.n a.p (start c).requires.placed m.last.0 m.result m.ensures
+    (start c).requires (rings c) (steps c) (rings_is c) (steps_is c)
 
 put-stations-requires : tie.Need-put-stations-requires
 put-stations-requires c κs = search rules
@@ -114,14 +114,14 @@ add-join-2 : tie.Need-overflow-add-join-2
 add-join-2 c =
     let d = c.before.before.before.before.before.before in
     let P = (start d).requires.placed in
-    omega (arith, P.room, P.w-apart, P.w_Fits, P.why-fits, (start d).well-formed.0)
+    omega (arith, P.room, P.w_apart, P.w_Fits, P.why_fits, (start d).well-formed.0)
 
 join-requires-3 : tie.Need-join-requires-3
 join-requires-3 c κs =
     let f = c.before.before.before in
     let e = f.before.before.before.before in
     let d = e.before.before.before in
-    back-room d f.join2.new.0 (omega (arith, f.join2.auto.0, e.join.auto.0, long d))
+    back_room d f.join2.new.0 (omega (arith, f.join2.auto.0, e.join.auto.0, long d))
 
 add-result : tie.Need-overflow-add-result
 add-result c =
@@ -141,22 +141,22 @@ returns c =
     let a = (start d).args in
     let m = (put d).put-stations in
     linked a.work.now a.n a.p (start d).requires.placed m.last.0 m.result m.ensures
-    (start d).requires (rings d) (steps d) (rings-is d) (steps-is d) e.join.new.0 f.join2.new.0
+    (start d).requires (rings d) (steps d) (rings_is d) (steps_is d) e.join.new.0 f.join2.new.0
     g.join3.new.0 e.join.ensures f.join2.ensures g.join3.ensures
 
 join-requires : tie.Need-join-requires
 join-requires c κs =
     let d = c.before.before in
-    ring-room d (put d).put-stations.new.0 (long d)
+    ring_room d (put d).put-stations.new.0 (long d)
 
 join-requires-2 : tie.Need-join-requires-2
 join-requires-2 c κs =
     let e = c.before.before.before in
     let d = e.before.before.before in
-    chain-room d e.join.new.0 (omega (arith, e.join.auto.0, long d))
+    chain_room d e.join.new.0 (omega (arith, e.join.auto.0, long d))
 
-pub put-links-spec : {M : Type 1} → statement M
-put-links-spec =
+pub put_links_spec : {M : Type 1} → statement M
+put_links_spec =
     tie.close
     (tie.spec
     put-stations-requires

@@ -3,7 +3,7 @@
 use Prim.Native.Nat.{◌≤◌, ◌-◌}
 use mathlib.Core.Path.{◌≡◌}
 use Rattle.memory.specs.Storing.{Copied}
-use Rattle.memory.proofs.Copies.{copy-down, copied-long}
+use Rattle.memory.proofs.Copies.{copy_down, copied_long}
 use borrow.Author.Rules.{rules}
 use native.Mathlib.Omega.{arith}
 use Rattle.memory.proofs.copy.Statement.{statement}
@@ -25,7 +25,7 @@ mul-work : tie.Need-overflow-mul-work invariant-loop decreases-loop
 mul-work c = search rules
 
 slice-read-work : tie.Need-slice-read-work invariant-loop decreases-loop
-slice-read-work c = omega (arith, copied-long c.before.before.loop.invariant.1)
+slice-read-work c = omega (arith, copied_long c.before.before.loop.invariant.1)
 
 add-work-2 : tie.Need-overflow-add-work-2 invariant-loop decreases-loop
 add-work-2 c = search rules
@@ -34,7 +34,7 @@ mul-work-2 : tie.Need-overflow-mul-work-2 invariant-loop decreases-loop
 mul-work-2 c = search rules
 
 slice-write-work : tie.Need-slice-write-work invariant-loop decreases-loop
-slice-write-work c = omega (arith, copied-long c.before.before.loop.invariant.1)
+slice-write-work c = omega (arith, copied_long c.before.before.loop.invariant.1)
 
 add-i : tie.Need-overflow-add-i invariant-loop decreases-loop
 add-i c = search rules
@@ -47,10 +47,10 @@ loop-again c =
     let a = c.before.before.before.args in
     let P = c.before.before.before.requires in
     let l = c.before.before.loop in
-    (omega arith, copy-down a.work.now l.work a.from l.i a.to (omega arith) (omega arith) l.invariant.1)
+    (omega arith, copy_down a.work.now l.work a.from l.i a.to (omega arith) (omega arith) l.invariant.1)
 
 same_length : tie.Need-same-length invariant-loop decreases-loop
-same_length c = copied-long c.before.loop.invariant.1
+same_length c = copied_long c.before.loop.invariant.1
 
 returns : tie.Need-returns invariant-loop decreases-loop
 returns c =

@@ -5,8 +5,8 @@ use mathlib.Core.Path.{◌≡◌, ap, ◌∙◌}
 use lib.ListN.{length}
 use lib.Seq.{sets, length-sets}
 use Rattle.memory.specs.Regions.{part}
-use Rattle.memory.proofs.Regions.{part-long}
-use Rattle.memory.proofs.Copies.{copy-front, sets_over}
+use Rattle.memory.proofs.Regions.{part_long}
+use Rattle.memory.proofs.Copies.{copy_front, sets_over}
 use borrow.Author.Rules.{rules}
 use native.Mathlib.Omega.{arith}
 use Rattle.memory.proofs.copy_out.Statement.{statement}
@@ -49,7 +49,7 @@ loop-again : tie.Need-loop-preserved invariant-loop decreases-loop
 loop-again c =
     let a = c.before.before.before.args in
     let l = c.before.before.loop in
-    (omega arith, copy-front a.work.now a.out.now l.out a.at l.i (omega arith) l.invariant.1)
+    (omega arith, copy_front a.work.now a.out.now l.out a.at l.i (omega arith) l.invariant.1)
 
 same_length : tie.Need-same-length invariant-loop decreases-loop
 same_length c = ap length c.before.loop.invariant.1 ∙ simp length-sets
@@ -59,12 +59,12 @@ returns c =
     let a = c.before.before.args in
     let e : c.before.loop.i ≡ a.n = omega arith in
     let long : length (part a.work.now a.at a.n) ≡ a.n =
-    part-long a.work.now a.at a.n (omega arith)
+    part_long a.work.now a.at a.n (omega arith)
     in
     rw e at c.before.loop.invariant.1 ∙ sets_over (part a.work.now a.at a.n) a.out.now (omega arith)
 
-pub copy-out-spec : {M : Type 1} → statement M
-copy-out-spec =
+pub copy_out_spec : {M : Type 1} → statement M
+copy_out_spec =
     tie.close
     (tie.spec
     invariant-loop

@@ -4,11 +4,11 @@ use mathlib.Core.Path.{◌≡◌, sym, ap, ◌∙◌}
 use lib.ListN.{length}
 use borrow.Author.Rules.{rules}
 use Rattle.rules.specs.Number.{got}
-use Rattle.filenumbers.specs.Readings.{number-reading}
-use Rattle.filecounts.specs.Counts.{zones-at, count_at}
-use Rattle.filecounts.proofs.FileCounts.{file-refused, file-goes-on, counted-refused, counted-goes-on}
-use Rattle.filecounts.proofs.FileCounts.{zones-few, count_fits}
-use Rattle.filebody.proofs.Bodies.{answered-bad}
+use Rattle.filenumbers.specs.Readings.{number_reading}
+use Rattle.filecounts.specs.Counts.{zones_at, count_at}
+use Rattle.filecounts.proofs.FileCounts.{file_refused, file_goes_on, counted_refused, counted_goes_on}
+use Rattle.filecounts.proofs.FileCounts.{zones_few, count_fits}
+use Rattle.filebody.proofs.Bodies.{answered_bad}
 use Rattle.netfile.proofs.Kept.{read_kept}
 use Rattle.netfile.proofs.read.Statement.{statement}
 use Rattle.netfile.proofs.read.Tie as tie
@@ -18,20 +18,20 @@ abbrev entry : tie.After-zones → tie.Start
 entry c = c.before.before.before.before.before.before
 
 -- the zone count that was read is the file's
-zones-read : (c : tie.After-zones)
-    → zones-at (entry c).args.file.now ≡ got c.zones.given.0.0 c.zones.given.0.1.0.at
-zones-read c = sym c.before.before.zone-count.ensures ∙ ap number-reading c.zones.given.1
+zones_read : (c : tie.After-zones)
+    → zones_at (entry c).args.file.now ≡ got c.zones.given.0.0 c.zones.given.0.1.0.at
+zones_read c = sym c.before.before.zone_count.ensures ∙ ap number_reading c.zones.given.1
 
 -- where the zone count was read, from where the arc count was
 abbrev zoned : tie.After-arcs → tie.After-zones
 zoned c = c.before.before.before.before
 
 -- the arc count that was read is the file's, with room in both lists
-count-read : (c : tie.After-arcs) →
+count_read : (c : tie.After-arcs) →
     let a = (entry (zoned c)).args in
     count_at a.file.now (length a.tails.now) (length a.heads.now) (zoned c).zones.given.0.1.0.at
     ≡ got c.arcs.given.0.0 c.arcs.given.0.1.0.at
-count-read c = sym c.before.before.arc-count.ensures ∙ ap number-reading c.arcs.given.1
+count_read c = sym c.before.before.arc_count.ensures ∙ ap number_reading c.arcs.given.1
 
 zone-count-requires : tie.Need-zone-count-requires
 zone-count-requires c κs = search rules
@@ -42,10 +42,10 @@ enum-known-t c = search rules
 returns : tie.Need-returns
 returns c =
     let a = c.before.before.before.before.before.before.before.args in
-    let e = sym c.before.before.before.zone-count.ensures ∙ ap number-reading c.before.t.given.1 in
+    let e = sym c.before.before.before.zone_count.ensures ∙ ap number_reading c.before.t.given.1 in
     let tails = length a.tails.now in
     let heads = length a.heads.now in
-    read_kept (answered-bad (file-refused a.file.now tails heads e))
+    read_kept (answered_bad (file_refused a.file.now tails heads e))
 
 enum-known-zones : tie.Need-enum-known-zones
 enum-known-zones c = search rules
@@ -61,12 +61,12 @@ returns-2 c =
     let l = c.before.before.before in
     let z = l.before.before in
     let a = (entry z).args in
-    let e = sym l.arc-count.ensures ∙ ap number-reading c.before.t2.given.1 in
+    let e = sym l.arc_count.ensures ∙ ap number_reading c.before.t2.given.1 in
     let s = a.file.now in
     let tails = length a.tails.now in
     let heads = length a.heads.now in
     read_kept
-    (answered-bad (file-goes-on s tails heads (zones-read z) ∙ counted-refused s tails heads _ _ e))
+    (answered_bad (file_goes_on s tails heads (zones_read z) ∙ counted_refused s tails heads _ _ e))
 
 enum-known-arcs : tie.Need-enum-known-arcs
 enum-known-arcs c = search rules
@@ -76,8 +76,8 @@ body-requires c κs =
     let m = c.before.before.before in
     let a = (entry (zoned m)).args in
     let s = a.file.now in (
-      zones-few s (zones-read (zoned m)),
-      count_fits s (length a.tails.now) (length a.heads.now) _ (count-read m),
+      zones_few s (zones_read (zoned m)),
+      count_fits s (length a.tails.now) (length a.heads.now) _ (count_read m),
     )
 
 same_length : tie.Need-same-length
@@ -96,7 +96,7 @@ returns-3 c =
     let tails = length a.tails.now in
     let heads = length a.heads.now in
     read_kept {a = b.body.result}
-    (rw (file-goes-on s tails heads (zones-read z) ∙ counted-goes-on s tails heads _ _ (count-read m))
+    (rw (file_goes_on s tails heads (zones_read z) ∙ counted_goes_on s tails heads _ _ (count_read m))
     b.body.ensures)
 
 pub read_spec : {M : Type 1} → statement M

@@ -5,7 +5,7 @@ use native.Mathlib.Omega.{arith}
 use mathlib.Core.Path.{◌≡◌}
 use Prim.Native.Nat.{◌-◌}
 use Rattle.pairing.specs.Pairs.{Course}
-use Rattle.pairing.proofs.CourseLaws.{course-begun, course-done}
+use Rattle.pairing.proofs.CourseLaws.{course_begun, course_done}
 use Rattle.pairing.proofs.pair.Statement.{statement}
 use Rattle.pairing.proofs.pair.Tie as tie
 
@@ -18,7 +18,7 @@ decreases-loop work₀ at s t k₀ p₀ work k p = s - k
 loop-holds : tie.Need-loop-init invariant-loop decreases-loop
 loop-holds c =
     let e = c.before in
-    course-begun e.args.work.now e.args.at e.args.s e.args.t e.requires
+    course_begun e.args.work.now e.args.at e.args.s e.args.t e.requires
 
 settle-requires : tie.Need-settle-requires invariant-loop decreases-loop
 settle-requires c κs =
@@ -33,7 +33,7 @@ add-k : tie.Need-overflow-add-k invariant-loop decreases-loop
 add-k c =
     let l = c.before.before.before.before.before.loop in
     let b = l.invariant.able in
-    omega (arith, b.laid.small, b.sources-few, l.invariant.turns)
+    omega (arith, b.laid.small, b.sources_few, l.invariant.turns)
 
 loop-less : tie.Need-loop-smaller invariant-loop decreases-loop
 loop-less c = search rules
@@ -51,7 +51,7 @@ returns c =
     let e = c.before.before.before in
     let l = c.before.loop in
     let all : l.k ≡ e.args.s = omega (arith, l.invariant.turns, c.loop-test.false) in
-    course-done e.args.work.now l.work e.args.at e.args.s e.args.t l.p (rw all at l.invariant)
+    course_done e.args.work.now l.work e.args.at e.args.s e.args.t l.p (rw all at l.invariant)
 
 pub pair_spec : {M : Type 1} → statement M
 pair_spec =

@@ -9,7 +9,7 @@ use lib.ListN.{get_or, length-set}
 use Rattle.arranged.specs.declared.Found.{Found}
 use Rattle.arranged.specs.declared.Found.TheVariants.{At, Nothing}
 use Rattle.turns.specs.Turn.{Turned}
-use Rattle.pairing.proofs.CourseLaws.{turnable, course-lone, course-paired}
+use Rattle.pairing.proofs.CourseLaws.{turnable, course_lone, course_paired}
 use Rattle.pairing.proofs.settle.Statement.{statement}
 use Rattle.pairing.proofs.settle.Tie as tie
 
@@ -40,8 +40,8 @@ abbrev There : Type 0
 There = tie.After-z
 
 -- its turn
-abbrev turn-of : There → Here
-turn-of c = c.before.before.before.before
+abbrev turn_of : There → Here
+turn_of c = c.before.before.before.before
 
 -- the sink
 abbrev sink : There → ℕ
@@ -49,11 +49,11 @@ sink c = c.z.given.0.0
 
 -- its turn, by that answer
 taken : (c : There) →
-    let d = turn-of c in
+    let d = turn_of c in
     let a = (entry d).args in
     Turned a.work.now (after d) a.at.rows a.at.search (source d) a.at.lists.sinks (a.t - a.p)
     (At (sink c))
-taken c = turned (turn-of c) (At (sink c)) c.z.given.1
+taken c = turned (turn_of c) (At (sink c)) c.z.given.1
 
 add-v : tie.Need-overflow-add-v
 add-v c = search rules
@@ -101,7 +101,7 @@ returns c =
     let d = c.before.before.before.before in
     let a = (entry d).args in
     λ v C.
-    course-lone v a.work.now a.at a.s a.t a.i a.p C (source d) refl
+    course_lone v a.work.now a.at a.s a.t a.i a.p C (source d) refl
     (entry d).requires.more (after d) (turned d Nothing c.enum_told.given.1)
 
 enum-known-z : tie.Need-enum-known-z
@@ -117,7 +117,7 @@ slice-write-work-2 : tie.Need-slice-write-work-2
 slice-write-work-2 c = search rules
 
 cast-work : tie.Need-overflow-cast-work
-cast-work c = omega (arith, (taken c.before).over.0, (entry (turn-of c.before)).requires.course.able.laid.small)
+cast-work c = omega (arith, (taken c.before).over.0, (entry (turn_of c.before)).requires.course.able.laid.small)
 
 add-work-3 : tie.Need-overflow-add-work-3
 add-work-3 c = search rules
@@ -136,14 +136,14 @@ same-length-2 c = search rules
 
 returns-2 : tie.Need-returns-2
 returns-2 c =
-    let d = turn-of c.before in
+    let d = turn_of c.before in
     let a = (entry d).args in
     λ v C.
-    course-paired v a.work.now a.at a.s a.t a.i a.p C (source d) refl
+    course_paired v a.work.now a.at a.s a.t a.i a.p C (source d) refl
     (entry d).pre.more (after d) (sink c.before) (taken c.before)
 
-pub settle-spec : {M : Type 1} → statement M
-settle-spec =
+pub settle_spec : {M : Type 1} → statement M
+settle_spec =
     tie.close
     (tie.spec
     add-v

@@ -1,6 +1,6 @@
 -- `phrases::refuse` meets its contract: the number of the trouble's kind and its place are put. Assumes nothing.
 use borrow.Author.Rules.{rules}
-use Rattle.phrases.proofs.PhraseLaws.{refusal-put}
+use Rattle.phrases.proofs.PhraseLaws.{refusal_put}
 use Rattle.phrases.proofs.refuse.Statement.{statement}
 use Rattle.phrases.proofs.refuse.Tie as tie
 
@@ -16,7 +16,7 @@ same_length c = search rules
 returns : tie.Need-returns
 returns c =
     let d = c.before.before in
-    rw refusal-put (rw d.before.trouble-number.ensures at d.say-refusal.ensures)
+    rw refusal_put (rw d.before.trouble-number.ensures at d.say-refusal.ensures)
 
-pub refuse-spec : {M : Type 1} → statement M
-refuse-spec = tie.close (tie.spec trouble-number-requires say-refusal-requires same_length returns)
+pub refuse_spec : {M : Type 1} → statement M
+refuse_spec = tie.close (tie.spec trouble-number-requires say-refusal-requires same_length returns)

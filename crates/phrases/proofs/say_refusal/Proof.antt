@@ -3,20 +3,20 @@
 use mathlib.Core.List.{◌++◌}
 use native.Mathlib.Omega.{arith}
 use Rattle.rules.specs.Text.{word}
-use Rattle.buffer.specs.Put.{Text-room}
+use Rattle.buffer.specs.Put.{TextRoom}
 use Rattle.buffer.specs.Words.{two}
-use Rattle.phrases.specs.Phrases.{refusal-text}
-use Rattle.buffer.proofs.Puts.{room-first, room-rest, written_then}
-use Rattle.phrases.proofs.PhraseLaws.{refusal-length}
+use Rattle.phrases.specs.Phrases.{refusal_text}
+use Rattle.buffer.proofs.Puts.{room_first, room_rest, written_then}
+use Rattle.phrases.proofs.PhraseLaws.{refusal_length}
 use borrow.Author.Rules.{rules}
 use Rattle.phrases.proofs.say_refusal.Statement.{statement}
 use Rattle.phrases.proofs.say_refusal.Tie as tie
 
 -- the buffer has room for the whole line
-whole : (c : tie.Start) → Text-room c.args.out.now c.args.at
+whole : (c : tie.Start) → TextRoom c.args.out.now c.args.at
     (two (word "refused ") c.args.number (word " at ") c.args.place ++ word "\n")
-unfolding refusal-text
-whole c = record { fits = omega (arith, refusal-length c.args.number c.args.place) }
+unfolding refusal_text
+whole c = record { fits = omega (arith, refusal_length c.args.number c.args.place) }
 
 slice-aggregate-put-two : tie.Need-slice-aggregate-put-two
 slice-aggregate-put-two c = search rules
@@ -28,7 +28,7 @@ put-two-requires : tie.Need-put-two-requires
 unfolding word
 put-two-requires c κs =
     let s = c.before.before.before.before in
-    room-first (word "\n") (whole s)
+    room_first (word "\n") (whole s)
 
 slice-aggregate-put-bytes : tie.Need-slice-aggregate-put-bytes
 slice-aggregate-put-bytes c = search rules
@@ -37,20 +37,20 @@ put-bytes-requires : tie.Need-put-bytes-requires
 unfolding word
 put-bytes-requires c κs =
     let t = c.before.before.before.before in
-    room-rest (whole t.before.before.before.before.before) t.put_two.ensures
+    room_rest (whole t.before.before.before.before.before) t.put_two.ensures
 
 same_length : tie.Need-same-length
 same_length c = search rules
 
 returns : tie.Need-returns
-unfolding word refusal-text
+unfolding word refusal_text
 returns c =
     let t = c.before.before.before.before.before.before.before in
     let s = t.before.before.before.before.before in
     written_then (whole s) t.put_two.ensures c.before.before.put-bytes.ensures
 
-pub say-refusal-spec : {M : Type 1} → statement M
-say-refusal-spec =
+pub say_refusal_spec : {M : Type 1} → statement M
+say_refusal_spec =
     tie.close
     (tie.spec
     slice-aggregate-put-two

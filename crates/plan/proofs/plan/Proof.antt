@@ -4,12 +4,12 @@ use Prim.Native.Nat.{◌+◌, ◌≤◌}
 use mathlib.Core.Path.{◌≡◌, sym, ap, ◌∙◌}
 use mathlib.Core.Option.{none}
 use lib.ListN.{length}
-use Rattle.rules.specs.Calls.{plan-trouble}
-use Rattle.workmap.proofs.Places.{placed, links-placed}
-use Rattle.probes.specs.Tested.{tested-trouble}
-use Rattle.plan.proofs.Answering.{Plannable, tests-plannable, plan-refused, plan-done}
+use Rattle.rules.specs.Calls.{plan_trouble}
+use Rattle.workmap.proofs.Places.{placed, links_placed}
+use Rattle.probes.specs.Tested.{tested_trouble}
+use Rattle.plan.proofs.Answering.{Plannable, tests_plannable, plan_refused, plan_done}
 use borrow.Author.Rules.{rules}
-use Rattle.theory.proofs.Files.Accepting.{fine-few}
+use Rattle.theory.proofs.Files.Accepting.{fine_few}
 use native.Mathlib.Omega.{arith}
 use Rattle.plan.proofs.plan.Statement.{statement}
 use Rattle.plan.proofs.plan.Tie as tie
@@ -24,10 +24,10 @@ entry c = c.before.before.before.before.before.before.before.before.before.befor
 
 -- what PLAN's tests say is what was found
 found : (c : Tried) →
-    plan-trouble (entry c).args.zones (entry c).args.tails.now (entry c).args.heads.now
+    plan_trouble (entry c).args.zones (entry c).args.tails.now (entry c).args.heads.now
     (entry c).args.gone.now
     (entry c).args.from.now (entry c).args.to.now (entry c).args.why.now (entry c).args.work.now
-    ≡ tested-trouble c.plan.result
+    ≡ tested_trouble c.plan.result
 found c = sym c.plan.ensures
 
 -- the tests found no trouble
@@ -36,13 +36,13 @@ Here = tie.After-enum-told
 
 -- there is none
 none_here : (c : Here) →
-    plan-trouble (entry c.before.before).args.zones (entry c.before.before).args.tails.now
+    plan_trouble (entry c.before.before).args.zones (entry c.before.before).args.tails.now
     (entry c.before.before).args.heads.now
     (entry c.before.before).args.gone.now (entry c.before.before).args.from.now
     (entry c.before.before).args.to.now (entry c.before.before).args.why.now
     (entry c.before.before).args.work.now
     ≡ none
-none_here c = found c.before.before ∙ ap tested-trouble c.enum_told.given.1
+none_here c = found c.before.before ∙ ap tested_trouble c.enum_told.given.1
 
 -- the input passes the tests
 plannable : (c : Here) →
@@ -53,7 +53,7 @@ plannable : (c : Here) →
     (entry c.before.before).args.work.now
 plannable c =
     let a = (entry c.before.before).args in
-    tests-plannable a.zones a.tails.now a.heads.now a.gone.now a.from.now a.to.now
+    tests_plannable a.zones a.tails.now a.heads.now a.gone.now a.from.now a.to.now
     a.why.now a.work.now
     (none_here c)
 
@@ -91,7 +91,7 @@ copies : (c : Laid) →
 copies c =
     let e = (map c).map_of.ensures in
     let p = placed e in
-    let l = links-placed e in
+    let l = links_placed e in
     let d = c.lay.ensures in
     let r = (plannable (here c)).ready.ready.room in
     ((omega arith, omega arith), (omega arith, omega arith))
@@ -118,15 +118,15 @@ returns : tie.Need-returns
 returns c =
     let d = c.before.before.before in
     let a = (entry d).args in
-    plan-refused a.zones a.tails.now a.heads.now a.gone.now a.from.now a.to.now a.why.now
+    plan_refused a.zones a.tails.now a.heads.now a.gone.now a.from.now a.to.now a.why.now
     a.work.now
-    c.before.t.given.0.0 (found d ∙ ap tested-trouble c.before.t.given.1)
+    c.before.t.given.0.0 (found d ∙ ap tested_trouble c.before.t.given.1)
 
 enum_told : tie.Need-enum-told
 enum_told c = search rules
 
 map-of-requires : tie.Need-map-of-requires
-map-of-requires c κs = let f = (plannable c).ready.ready.fine in (f.accepted.zones-most, fine-few f)
+map-of-requires c κs = let f = (plannable c).ready.ready.fine in (f.accepted.zones_most, fine_few f)
 
 lay-requires : tie.Need-lay-requires
 lay-requires c κs = let m = c.before in rw m.map_of.ensures (plannable (tests m)).ready
@@ -140,9 +140,9 @@ hand-out-requires c κs =
       starts = omega (arith, (copies d).0.0);
       ends = omega (arith, (copies d).0.1);
       whys = omega (arith, (copies d).1.0);
-      from-room = omega (arith, few, p.from-room);
+      from_room = omega (arith, few, p.from_room);
       to_room = omega (arith, few, p.to_room);
-      why-room = omega (arith, few, p.why-room);
+      why_room = omega (arith, few, p.why_room);
     }
 
 clear-requires : tie.Need-clear-requires
@@ -174,15 +174,15 @@ returns-2 c =
     let o = g.hand-out in
     let m = map d in
     let a = (entry (here d).before.before).args in
-    plan-done a.zones a.tails.now a.heads.now a.gone.now a.from.now a.to.now a.why.now
+    plan_done a.zones a.tails.now a.heads.now a.gone.now a.from.now a.to.now a.why.now
     a.work.now
     m.map_of.result d.lay.last.1.1.1.1.0 o.new.1.1.1.0 o.new.1.1.1.1.0
     o.new.1.1.1.1.1.0 h.clear.new.0 d.lay.result c.answer-of.result m.map_of.ensures
-    (none_here (here d)) d.lay.ensures c.answer-of.ensures o.ensures.starts-out o.ensures.ends-out
-    o.ensures.whys-out h.clear.ensures
+    (none_here (here d)) d.lay.ensures c.answer-of.ensures o.ensures.starts_out o.ensures.ends_out
+    o.ensures.whys_out h.clear.ensures
 
-pub plan-spec : {M : Type 1} → statement M
-plan-spec =
+pub plan_spec : {M : Type 1} → statement M
+plan_spec =
     tie.close
     (tie.spec
     plan-requires

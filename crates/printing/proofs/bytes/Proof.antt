@@ -5,8 +5,8 @@ use borrow.Author.Rules.{rules}
 use Rattle.printing.proofs.bytes.Statement.{statement}
 use Rattle.printing.proofs.bytes.Tie as tie
 
-pub bytes-spec : {M : Type 1} → statement M
-bytes-spec =
+pub bytes_spec : {M : Type 1} → statement M
+bytes_spec =
     tie.close
     (tie.spec
     (λ xs i₀ i. i ≤ length xs)

@@ -37,8 +37,8 @@ loop-again c = ⊎_elim (λ w. (omega arith, omega arith)) (λ w. (omega arith, 
 returns : tie.Need-returns invariant-loop decreases-loop
 returns c = search rules
 
-pub others-spec : {M : Type 1} → statement M
-others-spec =
+pub others_spec : {M : Type 1} → statement M
+others_spec =
     tie.close
     (tie.spec
     invariant-loop

@@ -9,5 +9,5 @@ returns c = simp (eq-eqb _ _ c.if1.true)
 returns-2 : tie.Need-returns-2
 returns-2 c = simp (ne_eqb _ _ c.if1.false)
 
-pub zones-bad-spec : {M : Type 1} → statement M
-zones-bad-spec = tie.close (tie.spec returns returns-2)
+pub zones_bad_spec : {M : Type 1} → statement M
+zones_bad_spec = tie.close (tie.spec returns returns-2)

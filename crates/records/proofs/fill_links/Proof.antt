@@ -43,20 +43,20 @@ use denote.Triple.Entry.{Args, Vals, on_entry}
 use denote.Triple.Spec.{Meets, triple_of}
 use denote.Triple.Table.{entered, cited}
 use denote.Triple.Walked.{needs, walk_of, walked, walk_Meets}
-use Rattle.workmap.specs.Map.{links-at}
+use Rattle.workmap.specs.Map.{links_at}
 use Rattle.columns.specs.Columns.{link_at, filled}
-use Rattle.columns.proofs.FillLaws.{filled-length}
-use Rattle.drafts.specs.Drafts.{Draft-readable}
+use Rattle.columns.proofs.FillLaws.{filled_length}
+use Rattle.drafts.specs.Drafts.{DraftReadable}
 use Rattle.rules.specs.declared.Link.{Link}
 use Rattle.rules.specs.contracts.Link as T
 use Rattle.rules.proofs.Link.TheLaws as T'
-use Rattle.walks.proofs.Lending.{Open, opens_row, closes-row}
-use Rattle.walks.proofs.Calling.{tokens, owned-of, carried, made, Source, Callee, asks, hears, ends}
-use Rattle.walks.proofs.Locals.{Slot, Thing, Places, holds as value, set-cell, started}
+use Rattle.walks.proofs.Lending.{Open, opens_row, closes_row}
+use Rattle.walks.proofs.Calling.{tokens, owned_of, carried, made, Source, Callee, asks, hears, ends}
+use Rattle.walks.proofs.Locals.{Slot, Thing, Places, holds as value, set_cell, started}
 use Rattle.walks.proofs.Locals.{token, owned, final, lender, naming}
 use Rattle.walks.proofs.Signing.{Formal, number, reads, holds, slots, stays, spells, tells, gos}
-use Rattle.walks.proofs.Stepping.{var, arg, lets, lands-in, takes, keeps, copies, enters, leaves, word, sized}
-use Rattle.walks.proofs.Turning.{same-value, start_of, lets-last, stores_at, tidies, while-below, scaled}
+use Rattle.walks.proofs.Stepping.{var, arg, lets, lands_in, takes, keeps, copies, enters, leaves, word, sized}
+use Rattle.walks.proofs.Turning.{same_value, start_of, lets_last, stores_at, tidies, while_below, scaled}
 use Rattle.records.specs.contracts.link_of as la
 use Rattle.records.proofs.link_of.Symbol as la-def
 use Rattle.records.proofs.link_of.Symbol.{name as #records·link-of}
@@ -115,8 +115,8 @@ module _ {M : Type 1} {𝓤 : Ura M} (𝓛 : Logic 𝓤) (mem : Memory → SProp
   LinkOf = Callee 𝓛 la.ended (la.clauses 𝓛 mem run)
 
   module _ (κl κw : Lft) (ql qw : Share) (ls : Bor (List Link)) (w : Bor (List ℕ)) (z n : ℕ)
-      (ls-fit : Room T.the_row (length ls.now)) (w-fit : Room u16 (length w.now)) (z-fits : z < 2 ^ 64)
-      (n-fits : n < 2 ^ 64) where
+      (ls_fit : Room T.the_row (length ls.now)) (w_fit : Room u16 (length w.now)) (z_fits : z < 2 ^ 64)
+      (n_fits : n < 2 ^ 64) where
     -- lifetimes, shares and arguments
     abbrev κs : Lfts 2
     κs = (κl, (κw, tt))
@@ -140,14 +140,14 @@ module _ {M : Type 1} {𝓤 : Ura M} (𝓛 : Logic 𝓤) (mem : Memory → SProp
 
     -- the list where i records are stored, and the reference to it
     abbrev zs : ℕ → List Link
-    zs i = filled w.now (links-at z) ls.now i
+    zs i = filled w.now (links_at z) ls.now i
 
-    abbrev at-end : Bor (List Link)
-    at-end = record { ref_ptr = (ls.ptr.0, ls.ptr.1); ghost_name = ls.name; now = zs n }
+    abbrev at_end : Bor (List Link)
+    at_end = record { ref_ptr = (ls.ptr.0, ls.ptr.1); ghost_name = ls.name; now = zs n }
 
     -- its length
     same_length : (i : ℕ) → length (zs i) ≡ length ls.now
-    same_length i = filled-length w.now (links-at z) ls.now i
+    same_length i = filled_length w.now (links_at z) ls.now i
 
     -- an index of a record is one of that list
     inside : (i : ℕ) → i < n → n ≤ length ls.now → i < length (zs i)
@@ -161,29 +161,29 @@ module _ {M : Type 1} {𝓤 : Ura M} (𝓛 : Logic 𝓤) (mem : Memory → SProp
     Opened = Open T.the_row κl ql ls.ghost_name ls.ref_ptr.0 ls.ref_ptr.1 ls.now
 
     -- what `link_of`'s triple binds outside, at index i
-    abbrev to-link : ℕ → LinkOf.Ghost
-    to-link i =
+    abbrev to_link : ℕ → LinkOf.Ghost
+    to_link i =
         (((κw, tt), (qw, tt), tt, (w, (z, (i, tt))), (shr_slice_vals w, (uint_vals w64 z, (uint_vals w64 i, tt)))), tt)
 
     -- the locals and the things before turn i
-    abbrev locals-at : Places locals → ℕ → List Slot
-    locals-at bs i =
-        set-cell counter (value (vint w64 i)) (started locals bs (flat (types_at (slots formals) κs) at))
+    abbrev locals_at : Places locals → ℕ → List Slot
+    locals_at bs i =
+        set_cell counter (value (vint w64 i)) (started locals bs (flat (types_at (slots formals) κs) at))
 
-    abbrev things-at : ℕ → List Thing
-    things-at i = naming had (Row (zs i) ∷ Opened ∷ flft κw qw ∷ (ShrSlice (named 1) κw u16).own_val w (shr_slice_vals w) ∷ [])
+    abbrev things_at : ℕ → List Thing
+    things_at i = naming had (Row (zs i) ∷ Opened ∷ flft κw qw ∷ (ShrSlice (named 1) κw u16).own_val w (shr_slice_vals w) ∷ [])
 
     -- the whole body
     walk : (𝓣 : Tables 𝓤 H) → Triple 𝓤 (𝓣.C #records·link-of) LinkOf →
-        (n ≤ length ls.now) × Draft-readable w.now z n →
+        (n ≤ length ls.now) × DraftReadable w.now z n →
         ent 𝓤 (on_entry 𝓛 fill.signature κs qs a at)
         (WpFn 𝓤 H 𝓣.C 𝓣.Λ code.function (flat (types_at (slots formals) κs) at) Post)
     unfolding filled
     walk 𝓣 known fit =
         enters 𝓛 𝓣.C 𝓣.Λ code.function locals (flat (types_at (slots formals) κs) at) Post
         (naming (token links ∷ token work ∷ []) (tokens 2 κs qs))
-        (naming (owned links ∷ owned work ∷ rest ∷ rest ∷ []) (owned-of (types_at (slots formals) κs) a at)) refl
-        (sized _ ls-fit.0, (sized _ w-fit.0, (word z z-fits, (word n n-fits, tt)))) (λ bs.
+        (naming (owned links ∷ owned work ∷ rest ∷ rest ∷ []) (owned_of (types_at (slots formals) κs) a at)) refl
+        (sized _ ls_fit.0, (sized _ w_fit.0, (word z z_fits, (word n n_fits, tt)))) (λ bs.
         lets ! (of_opd ! (lit ! tt)) refl tt (word 0 (lit< tt)) $
         -- the borrow of the records is opened
         takes ! (owned links ∷ token links ∷ []) refl $
@@ -191,45 +191,45 @@ module _ {M : Type 1} {𝓤 : Ura M} (𝓛 : Logic 𝓤) (mem : Memory → SProp
         (opens_row T.the_row κl ql ls.ghost_name ls.ref_ptr.0 ls.ref_ptr.1 𝓛 (named 0) ls.now (mut_slice_vals ls)) $
         await ! tt $ split ! $ keeps ! (owned links ∷ lender links ∷ []) refl $
         tidies ! [] had refl tt $
-        while-below 𝓛 𝓣 n (locals-at bs) things-at (λ y i. refl) (λ i Q small k.
+        while_below 𝓛 𝓣 n (locals_at bs) things_at (λ y i. refl) (λ i Q small k.
         let within : i < length (zs i) = inside i small fit.0 in
-        let wide : i * 6 < 2 ^ 64 = scaled T.the_row i (length ls.now) (omega arith) ls-fit in
+        let wide : i * 6 < 2 ^ 64 = scaled T.the_row i (length ls.now) (omega arith) ls_fit in
         let next : i + 1 < 2 ^ 64 = omega arith in
         -- the link of index i
         copies ! (owned work) (lender work) refl refl
         ((shr_slice_copy 𝓛 (named 1) κw u16).twice w (mut_slice_vals w)) $
         takes ! (token work ∷ lender work ∷ []) refl $
-        asks 𝓛 la.ended (la.clauses 𝓛 mem run) (to-link i) (carried, (free z z-fits, (free i (omega arith), tt)))
+        asks 𝓛 la.ended (la.clauses 𝓛 mem run) (to_link i) (carried, (free z z_fits, (free i (omega arith), tt)))
         (fact_i 𝓤 _ (emp 𝓤) (fit.1 i small)) $
-        calls_at ! (fm_of 𝓤 H 𝓛.laws 𝓣) LinkOf known (to-link i)
+        calls_at ! (fm_of 𝓤 H 𝓛.laws 𝓣) LinkOf known (to_link i)
         (arg ! refl refl (arg ! refl refl (arg ! refl refl (no_more !)))) (λ u.
-        hears 𝓛 la.ended (la.clauses 𝓛 mem run) (to-link i) u tt
-        (λ r ks. r ≡ link_at w.now (links-at z) i) (λ r ks. id⊢ 𝓤 _) (λ r ks e.
+        hears 𝓛 la.ended (la.clauses 𝓛 mem run) (to_link i) u tt
+        (λ r ks. r ≡ link_at w.now (links_at z) i) (λ r ks. id⊢ 𝓤 _) (λ r ks e.
         keeps ! (rest ∷ rest ∷ rest ∷ owned link ∷ token work ∷ []) refl $ takes ! (owned link ∷ []) refl $
         peeks ! T.the_row (Is T.the_row) (shows 𝓛 T.the_row) r (u ∷ []) (λ is. keeps ! (owned link ∷ []) refl $
-        lands-in ! refl tt ((LL.lawful T.the_type T'.the_laws 𝓛).typed r _ is).0 $
+        lands_in ! refl tt ((LL.lawful T.the_type T'.the_laws 𝓛).typed r _ is).0 $
         -- it is stored
         lets ! (bin ! (var ! refl refl) (lit ! tt) (record { fits = wide })) refl tt (word _ wide) $
         lets !
-        (same-value ! (ap (vptr ls.ptr.0) (sym (place_is 6 ls.ptr.1 i)))
+        (same_value ! (ap (vptr ls.ptr.0) (sym (place_is 6 ls.ptr.1 i)))
         (bin ! (start_of ! refl refl) (var ! refl refl) tt)) refl tt (tt, tt) $
         stores_at ! (owned links) (owned link) T.the_row (zs i) (zs (suc i)) i r ls.ptr.1 refl refl refl refl refl
         refl within (ap (set (zs i) i) e) ((LL.lawful T.the_type T'.the_laws 𝓛).typed r _ is).0 $
-        lets-last !
-        (same-value ! (ap (vint w64) (add-one i))
+        lets_last !
+        (same_value ! (ap (vint w64) (add-one i))
         (bin ! (var ! refl refl) (lit ! tt) (record { fits = next }))) refl tt (word (suc i) (omega arith)) $
         tidies ! (test ∷ link ∷ offset ∷ pointer ∷ []) had refl tt $ by ! k))))
         ( -- the borrow is closed
         lets ! (of_opd ! (unit_lit !)) refl tt (tt, tt) $ takes ! (owned links ∷ lender links ∷ []) refl $
-        use2 𝓛 (later (‵ ((MutSlice (named 0) κl T.the_row).own_val at-end (mut_slice_vals ls)) ⊛ ‵ (flft κl ql)))
-        (closes-row T.the_row κl ql ls.ghost_name ls.ref_ptr.0 ls.ref_ptr.1 𝓛 (named 0) ls.now (mut_slice_vals ls)
-        (zs n) refl ls-fit (same_length n)) $ await ! tt $ split ! $
+        use2 𝓛 (later (‵ ((MutSlice (named 0) κl T.the_row).own_val at_end (mut_slice_vals ls)) ⊛ ‵ (flft κl ql)))
+        (closes_row T.the_row κl ql ls.ghost_name ls.ref_ptr.0 ls.ref_ptr.1 𝓛 (named 0) ls.now (mut_slice_vals ls)
+        (zs n) refl ls_fit (same_length n)) $ await ! tt $ split ! $
         keeps ! (final links ∷ token links ∷ []) refl $
         -- the exit
         takes ! (token links ∷ token work ∷ final links ∷ owned work ∷ []) refl $ leaves ! refl refl tt $
         ends 𝓛 fill.ended (fill.clauses 𝓛 mem run) ((κs, qs, tt, a, at), tt) (stays formals) vunit tt
         (zs n, (tt, (tt, (tt, tt)))) (same_length n, (tt, (tt, (tt, tt)))) (fact_i 𝓤 _ (emp 𝓤) refl)
-        (carried, (carried, (free z z-fits, (free n n-fits, tt)))) (made (guard_i 𝓤 _ (emp 𝓤) refl))))
+        (carried, (carried, (free z z_fits, (free n n_fits, tt)))) (made (guard_i 𝓤 _ (emp 𝓤) refl))))
 
 module _ {M : Type 1} {𝓤 : Ura M} (𝓛 : Logic 𝓤) (mem : Memory → SProp 𝓤)
     (run : Routine → Fun 𝓤) (𝓣 : Tables 𝓤 𝓛.H) (known : Triple 𝓤 (𝓣.C #records·link-of) (LinkOf 𝓛 mem run)) where
@@ -242,14 +242,14 @@ module _ {M : Type 1} {𝓤 : Ura M} (𝓛 : Logic 𝓤) (mem : Memory → SProp
       (WpFn 𝓤 H 𝓣.C 𝓣.Λ code.function) (WpFn-mono 𝓤 H 𝓛.laws 𝓣 code.function)
       (walked 𝓛 fill.ended (stays formals) (fill.clauses 𝓛 mem run) (WpFn 𝓤 H 𝓣.C 𝓣.Λ code.function)
       (λ κs. spells κs formals) (λ κs. tells κs formals) (λ κs qs bounds a g are.
-      needs 𝓤 ((a.1.1.1.0 ≤ length a.0.now) × Draft-readable a.1.0.now a.1.1.0 a.1.1.1.0) _
+      needs 𝓤 ((a.1.1.1.0 ≤ length a.0.now) × DraftReadable a.1.0.now a.1.1.0 a.1.1.1.0) _
       (walk 𝓛 mem run κs.0 κs.1.0 qs.0 qs.1.0 a.0 a.1.0 a.1.1.0 a.1.1.1.0 are.0.0.1
       are.1.0.0.1 are.1.1.0.1 are.1.1.1.0.1 𝓣 known)))
 
 -- the contract, at the function's own routine
-pub fill-links-spec : {M : Type 1} → stated.statement M
+pub fill_links_spec : {M : Type 1} → stated.statement M
 unfolding code.routine tables_of
-fill-links-spec 𝓤 𝓛 𝓜 𝓡 =
+fill_links_spec 𝓤 𝓛 𝓜 𝓡 =
     entered 𝓤 𝓛.H (triple_of 𝓛 fill.signature (fill.spec 𝓛 𝓜.mem 𝓡.run))
     (tables 𝓤 𝓛.H 𝓜 𝓡 code.env).C (tables 𝓤 𝓛.H 𝓜 𝓡 code.env).Λ #records·fill-links code.function
     (code.unfolded 𝓤 𝓛.H 𝓜 𝓡)

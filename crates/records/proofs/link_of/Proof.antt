@@ -3,7 +3,7 @@ use borrow.Author.Rules.{rules}
 use mathlib.Core.Path.{sym, ap, subst, ◌∙◌}
 use Rattle.workmap.specs.declared.LinksAt.{LinksAt}
 use Rattle.workmap.specs.declared.Map.{Map}
-use Rattle.columns.specs.Columns.{Link-stands, link_at}
+use Rattle.columns.specs.Columns.{LinkStands, link_at}
 use Rattle.records.proofs.link_of.Statement.{statement}
 use Rattle.records.proofs.link_of.Tie as tie
 
@@ -14,7 +14,7 @@ link-at-requires : tie.Need-link-at-requires
 link-at-requires c κs =
     let s = c.before.before.before in
     let is = ap (λ (m : Map). m.links) c.before.map_of.ensures in
-    subst (λ (at : LinksAt). Link-stands s.args.work.now at s.args.i) (sym is) s.requires.1
+    subst (λ (at : LinksAt). LinkStands s.args.work.now at s.args.i) (sym is) s.requires.1
 
 returns : tie.Need-returns
 returns c =
@@ -22,5 +22,5 @@ returns c =
     let is = ap (λ (m : Map). m.links) c.before.before.map_of.ensures in
     c.link_at.ensures ∙ ap (λ (at : LinksAt). link_at s.args.work.now at s.args.i) is
 
-pub link-of-spec : {M : Type 1} → statement M
-link-of-spec = tie.close (tie.spec map-of-requires link-at-requires returns)
+pub link_of_spec : {M : Type 1} → statement M
+link_of_spec = tie.close (tie.spec map-of-requires link-at-requires returns)

@@ -46,15 +46,15 @@ use Rattle.rules.specs.contracts.PlanAnswer as P
 use Rattle.rules.proofs.PlanAnswer.TheLaws as P'
 use Rattle.rules.specs.declared.Link.{Link}
 use Rattle.rules.specs.contracts.Link as T
-use Rattle.workmap.specs.Map.{links-at}
+use Rattle.workmap.specs.Map.{links_at}
 use Rattle.columns.specs.Columns.{filled}
-use Rattle.drafts.specs.Drafts.{need-of, finished, Drafted}
-use Rattle.drafts.proofs.Answering.{fill-asks, drafted-promise}
+use Rattle.drafts.specs.Drafts.{need_of, finished, Drafted}
+use Rattle.drafts.proofs.Answering.{fill_asks, drafted_promise}
 use Rattle.walks.proofs.Lending.{LentAgain, LentShared, lends_again, comes_back, lends_shared, shared_back}
-use Rattle.walks.proofs.Calling.{tokens, owned-of, carried, made, Source, Callee, asks, hears, ends}
+use Rattle.walks.proofs.Calling.{tokens, owned_of, carried, made, Source, Callee, asks, hears, ends}
 use Rattle.walks.proofs.Locals.{token, owned, final, lender, naming}
 use Rattle.walks.proofs.Signing.{Formal, number, reads, gives, slots, stays, spells, tells, gos}
-use Rattle.walks.proofs.Stepping.{arg, length-of, data_of, slice-again, lets, lands-in, takes, keeps, copies, enters}
+use Rattle.walks.proofs.Stepping.{arg, length_of, data_of, slice_again, lets, lands_in, takes, keeps, copies, enters}
 use Rattle.walks.proofs.Stepping.{leaves, word, sized}
 use Rattle.drafts.specs.contracts.draft as dr
 use Rattle.drafts.proofs.draft.Symbol as dr-def
@@ -118,10 +118,10 @@ module _ {M : Type 1} {𝓤 : Ura M} (𝓛 : Logic 𝓤) (mem : Memory → SProp
   Clear = Callee 𝓛 cl.ended (cl.clauses 𝓛 mem run)
 
   module _ (κt κh κg κl κw : Lft) (qt qh qg ql qw : Share) (n : ℕ) (ts hs gs : Bor (List ℕ)) (ls : Bor (List Link))
-      (w : Bor (List ℕ)) (n-fits : n < 2 ^ 64) (ts-fit : Room u16 (length ts.now))
-      (hs-fit : Room u16 (length hs.now)) (gs-fit : Room u16 (length gs.now))
-      (ls-fit : Room T.the_row (length ls.now))
-      (w-fit : Room u16 (length w.now)) where
+      (w : Bor (List ℕ)) (n_fits : n < 2 ^ 64) (ts_fit : Room u16 (length ts.now))
+      (hs_fit : Room u16 (length hs.now)) (gs_fit : Room u16 (length gs.now))
+      (ls_fit : Room T.the_row (length ls.now))
+      (w_fit : Room u16 (length w.now)) where
     -- lifetimes, shares and arguments
     abbrev κs : Lfts 5
     κs = (κt, (κh, (κg, (κl, (κw, tt)))))
@@ -159,8 +159,8 @@ module _ {M : Type 1} {𝓤 : Ura M} (𝓛 : Logic 𝓤) (mem : Memory → SProp
     Shown κ δ us = ‵ ((ShrSlice (named 1) κ u16).own_val (memory δ us) (shr_slice_vals w))
 
     -- what the triples of the four bind outside: lifetimes, shares, arguments and their machine values
-    abbrev to-draft : ℕ → GName → Draft.Ghost
-    to-draft ν δ = (
+    abbrev to_draft : ℕ → GName → Draft.Ghost
+    to_draft ν δ = (
       (
         (κt, (κh, (κg, (ν ∷ [], tt)))),
         (qt, (qh, (qg, (full_share, tt)))),
@@ -177,8 +177,8 @@ module _ {M : Type 1} {𝓤 : Ura M} (𝓛 : Logic 𝓤) (mem : Memory → SProp
       tt,
     )
 
-    abbrev to-need : PlanAnswer → Val → Need.Ghost
-    to-need r u = ((tt, tt, tt, (r, tt), (u ∷ [], tt)), tt)
+    abbrev to_need : PlanAnswer → Val → Need.Ghost
+    to_need r u = ((tt, tt, tt, (r, tt), (u ∷ [], tt)), tt)
 
     abbrev to_fill : ℕ → GName → List ℕ → ℕ → Val → Fill.Ghost
     to_fill ν δ us k u = (
@@ -210,23 +210,23 @@ module _ {M : Type 1} {𝓤 : Ura M} (𝓛 : Logic 𝓤) (mem : Memory → SProp
         Triple 𝓤 (C #drafts·clear-draft) Clear →
         ent 𝓤 (on_entry 𝓛 pr.signature κs qs a at)
         (WpFn 𝓤 H C Λ code.function (flat (types_at (slots formals) κs) at) Post)
-    walk C Λ fm known-draft known-need known-fill known-clear =
+    walk C Λ fm known_draft known_need known_fill known_clear =
         let tails : ℕ = 1 in let heads : ℕ = 2 in let gone : ℕ = 3 in let records : ℕ = 4 in let work : ℕ = 5 in
         let lent : ℕ = 6 in let answer : ℕ = 7 in let rest : ℕ = owned 8 in
         enters 𝓛 C Λ code.function locals (flat (types_at (slots formals) κs) at) Post
         (naming (token tails ∷ token heads ∷ token gone ∷ token records ∷ token work ∷ []) (tokens 5 κs qs))
         (naming (rest ∷ owned tails ∷ owned heads ∷ owned gone ∷ owned records ∷ owned work ∷ [])
-        (owned-of (types_at (slots formals) κs) a at)) refl (
-          word n n-fits,
+        (owned_of (types_at (slots formals) κs) a at)) refl (
+          word n n_fits,
           (
-            sized _ ts-fit.0,
-            (sized _ hs-fit.0, (sized _ gs-fit.0, (sized _ ls-fit.0, (sized _ w-fit.0, tt)))),
+            sized _ ts_fit.0,
+            (sized _ hs_fit.0, (sized _ gs_fit.0, (sized _ ls_fit.0, (sized _ w_fit.0, tt)))),
           ),
         )
         (λ bs.
-        lets ! (of_opd ! (length-of ! refl refl)) refl tt (word _ ls-fit.0) $
+        lets ! (of_opd ! (length_of ! refl refl)) refl tt (word _ ls_fit.0) $
         lets ! (addr ! (data_of ! refl refl)) refl tt (tt, tt) $
-        lets ! (slice-again ! refl refl refl) refl tt (sized _ w-fit.0) $
+        lets ! (slice_again ! refl refl refl) refl tt (sized _ w_fit.0) $
         -- tails, heads and withdrawn zones are kept for the exit
         copies ! (owned tails) (lender tails) refl refl
         ((shr_slice_copy 𝓛 (named 0) κt u16).twice ts (mut_slice_vals ts)) $
@@ -247,12 +247,12 @@ module _ {M : Type 1} {𝓤 : Ura M} (𝓛 : Logic 𝓤) (mem : Memory → SProp
         takes !
         (token tails ∷ token heads ∷ token gone ∷ token lent ∷ owned tails ∷ owned heads ∷ owned gone ∷ owned lent ∷ [])
         refl $
-        asks 𝓛 dr.ended (dr.clauses 𝓛 mem run) (to-draft ν δ)
-        (free n n-fits, (carried, (carried, (carried, (free _ ls-fit.0, (carried, tt)))))) (id⊢ 𝓤 _) $
-        calls_at ! fm Draft known-draft (to-draft ν δ)
+        asks 𝓛 dr.ended (dr.clauses 𝓛 mem run) (to_draft ν δ)
+        (free n n_fits, (carried, (carried, (carried, (free _ ls_fit.0, (carried, tt)))))) (id⊢ 𝓤 _) $
+        calls_at ! fm Draft known_draft (to_draft ν δ)
         (arg ! refl refl
         (arg ! refl refl (arg ! refl refl (arg ! refl refl (arg ! refl refl (arg ! refl refl (no_more !))))))) (λ u.
-        hears 𝓛 dr.ended (dr.clauses 𝓛 mem run) (to-draft ν δ) u tt
+        hears 𝓛 dr.ended (dr.clauses 𝓛 mem run) (to_draft ν δ) u tt
         (λ r ks. Drafted n ts.now hs.now gs.now (length ls.now) w.now r ks.1.1.1.1.1.0)
         (λ r ks. id⊢ 𝓤 _)
         (λ r ks p. let us : List ℕ = ks.1.1.1.1.1.0 in
@@ -260,24 +260,24 @@ module _ {M : Type 1} {𝓤 : Ura M} (𝓛 : Logic 𝓤) (mem : Memory → SProp
         (rest ∷ rest ∷ rest ∷ rest ∷ rest ∷ final lent ∷ owned answer ∷ token tails ∷ token heads ∷ token gone
         ∷ token lent ∷ []) refl $
         takes ! (owned answer ∷ []) refl $ facts ! P.the_row (Is P.the_row) (shows 𝓛 P.the_row) r (u ∷ []) (λ is.
-        lands-in ! refl tt ((EL.lawful P.the_type P'.the_laws 𝓛 tt).typed r _ is).0 $
+        lands_in ! refl tt ((EL.lawful P.the_type P'.the_laws 𝓛 tt).typed r _ is).0 $
         takes ! (final lent ∷ []) refl $ fsplit ! $ keeps ! (final lent ∷ []) refl $ feq_l ! (λ long.
         takes ! (token lent ∷ lender work ∷ final lent ∷ []) refl $ lft_end ! tt $
         use3 𝓛 (later (Whole (named 4) κw w.name us ⊛ ‵ (flft κw qw)))
-        (comes_back u16 κw (ν ∷ []) qw w.ghost_name w.ref_ptr.0 w.ref_ptr.1 𝓛 (named 4) (named 3) w.now δ us w-fit
+        (comes_back u16 κw (ν ∷ []) qw w.ghost_name w.ref_ptr.0 w.ref_ptr.1 𝓛 (named 4) (named 3) w.now δ us w_fit
         long) $ await ! tt $ split ! $ keeps ! (owned work ∷ token work ∷ []) refl $
         -- the records, and the work memory to read, for the filling; and how many links there are
         lets ! (addr ! (data_of ! refl refl)) refl tt (tt, tt) $
-        lets ! (slice-again ! refl refl refl) refl tt (sized _ ls-fit.0) $
+        lets ! (slice_again ! refl refl refl) refl tt (sized _ ls_fit.0) $
         lets ! (addr ! (data_of ! refl refl)) refl tt (tt, tt) $
-        lets ! (slice-again ! refl refl refl) refl tt (sized _ w-fit.0) $
-        asks 𝓛 no.ended (no.clauses 𝓛 mem run) (to-need r u) (told r u is, tt) (id⊢ 𝓤 _) $
-        calls_at ! fm Need known-need (to-need r u)
+        lets ! (slice_again ! refl refl refl) refl tt (sized _ w_fit.0) $
+        asks 𝓛 no.ended (no.clauses 𝓛 mem run) (to_need r u) (told r u is, tt) (id⊢ 𝓤 _) $
+        calls_at ! fm Need known_need (to_need r u)
         (arg ! refl refl (no_more !)) (λ u₁.
-        hears 𝓛 no.ended (no.clauses 𝓛 mem run) (to-need r u) u₁ tt (λ k ks. k ≡ need-of r) (λ k ks. id⊢ 𝓤 _)
+        hears 𝓛 no.ended (no.clauses 𝓛 mem run) (to_need r u) u₁ tt (λ k ks. k ≡ need_of r) (λ k ks. id⊢ 𝓤 _)
         (λ k ks₁ e₁. keeps ! (rest ∷ owned answer ∷ []) refl $ takes ! (owned answer ∷ []) refl $
         facts ! usize (Is usize) (shows 𝓛 usize) k (u₁ ∷ []) (λ is₁.
-        lands-in ! refl tt ((uint_Lawful 𝓛 w64).typed k _ is₁).0 $
+        lands_in ! refl tt ((uint_Lawful 𝓛 w64).typed k _ is₁).0 $
         -- the filling gets the work memory as `&`, for a lifetime ν₂
         lft_new ! tt (λ ν₂. takes ! (owned work ∷ token work ∷ []) refl $
         use2 𝓛
@@ -290,29 +290,29 @@ module _ {M : Type 1} {𝓤 : Ura M} (𝓛 : Logic 𝓤) (mem : Memory → SProp
         keeps ! (owned lent ∷ lender work ∷ token lent ∷ []) refl $
         takes ! (token records ∷ token lent ∷ owned records ∷ owned lent ∷ []) refl $
         asks 𝓛 fill.ended (fill.clauses 𝓛 mem run) (to_fill ν₂ δ₂ us k u₁)
-        (carried, (carried, (free n n-fits, (made (uint_Makes 𝓛 w64 k _ is₁), tt))))
-        (fact_i 𝓤 _ (emp 𝓤) (fill-asks k p e₁)) $
-        calls_at ! fm Fill known-fill (to_fill ν₂ δ₂ us k u₁)
+        (carried, (carried, (free n n_fits, (made (uint_Makes 𝓛 w64 k _ is₁), tt))))
+        (fact_i 𝓤 _ (emp 𝓤) (fill_asks k p e₁)) $
+        calls_at ! fm Fill known_fill (to_fill ν₂ δ₂ us k u₁)
         (arg ! refl refl (arg ! refl refl (arg ! refl refl (arg ! refl refl (no_more !))))) (λ u₂.
         hears 𝓛 fill.ended (fill.clauses 𝓛 mem run) (to_fill ν₂ δ₂ us k u₁) u₂ tt
-        (λ v ks. ks.0 ≡ filled us (links-at n) ls.now k) (λ v ks. id⊢ 𝓤 _) (λ v ks₂ e₂.
+        (λ v ks. ks.0 ≡ filled us (links_at n) ls.now k) (λ v ks. id⊢ 𝓤 _) (λ v ks₂ e₂.
         keeps ! (final records ∷ rest ∷ rest ∷ rest ∷ owned answer ∷ token records ∷ token lent ∷ []) refl $
         takes ! (owned answer ∷ []) refl $ facts ! unit (Is unit) (shows 𝓛 unit) v (u₂ ∷ []) (λ is₂.
-        lands-in ! refl tt ((Nothing-Lawful 𝓛).typed v _ is₂).0 $
+        lands_in ! refl tt ((Nothing-Lawful 𝓛).typed v _ is₂).0 $
         takes ! (final records ∷ []) refl $ fsplit ! $ keeps ! (final records ∷ []) refl $ feq_l ! (λ long₂.
         takes ! (token lent ∷ lender work ∷ []) refl $ lft_end ! tt $
         use2 𝓛 (later (Whole (named 4) κw w.name us ⊛ ‵ (flft κw qw)))
         (shared_back u16 κw (ν₂ ∷ []) qw w.name w.ptr.0 w.ptr.1 𝓛 (named 4) (named 1) us (mut_slice_vals w)
-        (ap (λ (m : ℕ). slice_val w.ptr m ∷ []) (sym long)) (subst (Room u16) (sym long) w-fit)) $ await ! tt $
+        (ap (λ (m : ℕ). slice_val w.ptr m ∷ []) (sym long)) (subst (Room u16) (sym long) w_fit)) $ await ! tt $
         split ! $ keeps ! (owned work ∷ token work ∷ []) refl $
         -- the clearing gets the work memory for good
-        lets ! (of_opd ! (length-of ! refl refl)) refl tt (word _ ts-fit.0) $
+        lets ! (of_opd ! (length_of ! refl refl)) refl tt (word _ ts_fit.0) $
         lets ! (addr ! (data_of ! refl refl)) refl tt (tt, tt) $
-        lets ! (slice-again ! refl refl refl) refl tt (sized _ w-fit.0) $
+        lets ! (slice_again ! refl refl refl) refl tt (sized _ w_fit.0) $
         takes ! (token work ∷ owned work ∷ []) refl $
         asks 𝓛 cl.ended (cl.clauses 𝓛 mem run) (to_clear us r u)
-        (told r u is, (free n n-fits, (free _ ts-fit.0, (carried, tt)))) (fact_i 𝓤 _ (emp 𝓤) p.finishable) $
-        calls_at ! fm Clear known-clear (to_clear us r u)
+        (told r u is, (free n n_fits, (free _ ts_fit.0, (carried, tt)))) (fact_i 𝓤 _ (emp 𝓤) p.finishable) $
+        calls_at ! fm Clear known_clear (to_clear us r u)
         (arg ! refl refl (arg ! refl refl (arg ! refl refl (arg ! refl refl (no_more !))))) (λ u₃.
         hears 𝓛 cl.ended (cl.clauses 𝓛 mem run) (to_clear us r u) u₃ tt
         (λ r₂ ks. (r₂ ≡ r) × (ks.1.1.1.0 ≡ finished r n (length ts.now) us)) (λ r₂ ks. id⊢ 𝓤 _) (λ r₂ ks₃ e₃.
@@ -321,7 +321,7 @@ module _ {M : Type 1} {𝓤 : Ura M} (𝓛 : Logic 𝓤) (mem : Memory → SProp
         takes ! (owned answer ∷ []) refl $
         peeks ! P.the_row (Is P.the_row) (shows 𝓛 P.the_row) r₂ (u₃ ∷ []) (λ is₃.
         keeps ! (owned answer ∷ []) refl $
-        lands-in ! refl tt ((EL.lawful P.the_type P'.the_laws 𝓛 tt).typed r₂ _ is₃).0 $
+        lands_in ! refl tt ((EL.lawful P.the_type P'.the_laws 𝓛 tt).typed r₂ _ is₃).0 $
         -- the exit
         takes !
         (token tails ∷ token heads ∷ token gone ∷ token records ∷ token work ∷ lender tails ∷ lender heads ∷ lender gone
@@ -329,19 +329,19 @@ module _ {M : Type 1} {𝓤 : Ura M} (𝓛 : Logic 𝓤) (mem : Memory → SProp
         ends 𝓛 pr.ended (pr.clauses 𝓛 mem run) ((κs, qs, tt, a, at), tt) (stays formals) u₃ r₂
         (tt, (tt, (tt, (tt, (ks₂.0, (ks₃.1.1.1.0, tt))))))
         (tt, (tt, (tt, (tt, (long₂, (long₃ ∙ long, tt))))))
-        (fact_i 𝓤 _ (emp 𝓤) (drafted-promise p e₁ e₂ e₃))
-        (free n n-fits, (carried, (carried, (carried, (carried, (carried, tt)))))) carried))))))))))))))))))))
+        (fact_i 𝓤 _ (emp 𝓤) (drafted_promise p e₁ e₂ e₃))
+        (free n n_fits, (carried, (carried, (carried, (carried, (carried, tt)))))) carried))))))))))))))))))))
 
 module _ {M : Type 1} {𝓤 : Ura M} (𝓛 : Logic 𝓤) (mem : Memory → SProp 𝓤)
-    (run : Routine → Fun 𝓤) (𝓣 : Tables 𝓤 𝓛.H) (known-draft : Triple 𝓤 (𝓣.C #drafts·draft) (Draft 𝓛 mem run))
-    (known-need : Triple 𝓤 (𝓣.C #drafts·need-of) (Need 𝓛 mem run))
-    (known-fill : Triple 𝓤 (𝓣.C #records·fill-links) (Fill 𝓛 mem run))
-    (known-clear : Triple 𝓤 (𝓣.C #drafts·clear-draft) (Clear 𝓛 mem run)) where
+    (run : Routine → Fun 𝓤) (𝓣 : Tables 𝓤 𝓛.H) (known_draft : Triple 𝓤 (𝓣.C #drafts·draft) (Draft 𝓛 mem run))
+    (known_need : Triple 𝓤 (𝓣.C #drafts·need-of) (Need 𝓛 mem run))
+    (known_fill : Triple 𝓤 (𝓣.C #records·fill-links) (Fill 𝓛 mem run))
+    (known_clear : Triple 𝓤 (𝓣.C #drafts·clear-draft) (Clear 𝓛 mem run)) where
   -- the contract, at the function's MIR: the walk, at every choice of lifetimes, shares and arguments
   open 𝓛 use {H}
 
-  plan-meets : Meets 𝓛 pr.signature (WpFn 𝓤 H 𝓣.C 𝓣.Λ code.function) (pr.spec 𝓛 mem run)
-  plan-meets =
+  plan_meets : Meets 𝓛 pr.signature (WpFn 𝓤 H 𝓣.C 𝓣.Λ code.function) (pr.spec 𝓛 mem run)
+  plan_meets =
       walk_Meets 𝓛 pr.ended (stays formals) (gos 𝓛 formals) (pr.clauses 𝓛 mem run)
       (WpFn 𝓤 H 𝓣.C 𝓣.Λ code.function) (WpFn-mono 𝓤 H 𝓛.laws 𝓣 code.function)
       (walked 𝓛 pr.ended (stays formals) (pr.clauses 𝓛 mem run) (WpFn 𝓤 H 𝓣.C 𝓣.Λ code.function)
@@ -352,19 +352,19 @@ module _ {M : Type 1} {𝓤 : Ura M} (𝓛 : Logic 𝓤) (mem : Memory → SProp
       a.1.1.1.1.0 a.1.1.1.1.1.0 are.0.1 are.1.0.0.1 are.1.1.0.0.1
       are.1.1.1.0.0.1 are.1.1.1.1.0.0.1 are.1.1.1.1.1.0.0.1 𝓣.C 𝓣.Λ
       (fm_of 𝓤 H 𝓛.laws 𝓣)
-      known-draft known-need known-fill known-clear)))
+      known_draft known_need known_fill known_clear)))
 
 -- the contract, at the function's own routine
-pub plan-records-spec : {M : Type 1} → stated.statement M
+pub plan_records_spec : {M : Type 1} → stated.statement M
 unfolding code.routine tables_of
-plan-records-spec 𝓤 𝓛 𝓜 𝓡 =
+plan_records_spec 𝓤 𝓛 𝓜 𝓡 =
     entered 𝓤 𝓛.H (triple_of 𝓛 pr.signature (pr.spec 𝓛 𝓜.mem 𝓡.run))
     (tables 𝓤 𝓛.H 𝓜 𝓡 code.env).C (tables 𝓤 𝓛.H 𝓜 𝓡 code.env).Λ #records·plan-records code.function
     (code.unfolded 𝓤 𝓛.H 𝓜 𝓡)
-    (plan-meets 𝓛 𝓜.mem 𝓡.run (tables_of 𝓤 𝓛.H 𝓜 (tables 𝓤 𝓛.H 𝓜 𝓡 code.env))
+    (plan_meets 𝓛 𝓜.mem 𝓡.run (tables_of 𝓤 𝓛.H 𝓜 (tables 𝓤 𝓛.H 𝓜 𝓡 code.env))
     (cited 𝓤 𝓛.H (Draft 𝓛 𝓜.mem 𝓡.run) 𝓜 𝓡 code.env #drafts·draft dr-def.routine code.calls-drafts::draft
     (dr-thm.met 𝓤 𝓛 𝓜 𝓡))
-    (cited 𝓤 𝓛.H (Need 𝓛 𝓜.mem 𝓡.run) 𝓜 𝓡 code.env #drafts·need-of no-def.routine code.calls-drafts::need-of
+    (cited 𝓤 𝓛.H (Need 𝓛 𝓜.mem 𝓡.run) 𝓜 𝓡 code.env #drafts·need-of no-def.routine code.calls-drafts::need_of
     (no-thm.met 𝓤 𝓛 𝓜 𝓡))
     (cited 𝓤 𝓛.H (Fill 𝓛 𝓜.mem 𝓡.run) 𝓜 𝓡 code.env #records·fill-links fill-def.routine
     code.calls-records::fill-links (fill-thm.met 𝓤 𝓛 𝓜 𝓡))

@@ -2,9 +2,9 @@
 -- lines. Assumes nothing.
 use mathlib.Core.Path.{◌≡◌}
 use lib.ListN.{length}
-use Rattle.text.specs.Texts.{Putable, answer-lines}
-use Rattle.responding.specs.Buffers.{handed-lines}
-use Rattle.responding.proofs.Accepted.{zeros-long, plan-passes}
+use Rattle.text.specs.Texts.{Putable, answer_lines}
+use Rattle.responding.specs.Buffers.{handed_lines}
+use Rattle.responding.proofs.Accepted.{zeros_long, plan_passes}
 use Rattle.responding.proofs.Lines.{planned}
 use borrow.Author.Rules.{rules}
 use Rattle.responding.proofs.put_planned.Statement.{statement}
@@ -24,12 +24,12 @@ made : (d : tie.After-plan) →
     let r = d.plan.result in
     let l = d.plan.new.1.1.1.1 in
     Putable r l.0 l.1.0 l.1.1.0 a.out.now
-    × (answer-lines a.zones (length a.tails.now) r l.0 l.1.0 l.1.1.0
-    ≡ handed-lines a.zones a.tails.now a.heads.now)
+    × (answer_lines a.zones (length a.tails.now) r l.0 l.1.0 l.1.1.0
+    ≡ handed_lines a.zones a.tails.now a.heads.now)
 made d =
     let s = entry d in
-    let most = zeros-long 1024 in
-    planned _ _ _ _ _ _ _ (plan-passes _ _ _ _ _ _ _ _ s.pre.fine (zeros-long 28672) most most most)
+    let most = zeros_long 1024 in
+    planned _ _ _ _ _ _ _ (plan_passes _ _ _ _ _ _ _ _ s.pre.fine (zeros_long 28672) most most most)
     d.plan.result s.args.out.now s.pre.lines_fit d.plan.ensures
 
 slice-aggregate-plan : tie.Need-slice-aggregate-plan
@@ -70,8 +70,8 @@ returns c =
     let p = c.before.before in
     rw (made (called p.before)).1 at p.put-answer.ensures
 
-pub put-planned-spec : {M : Type 1} → statement M
-put-planned-spec =
+pub put_planned_spec : {M : Type 1} → statement M
+put_planned_spec =
     tie.close
     (tie.spec
     slice-aggregate-plan

@@ -2,9 +2,9 @@
 -- read hands its network on to be planned. Assumes nothing.
 use mathlib.Core.Path.{sym}
 use lib.Seq.{length-take-le}
-use Rattle.responding.proofs.Accepted.{zeros-are}
+use Rattle.responding.proofs.Accepted.{zeros_are}
 use Rattle.responding.proofs.Lines.{responded}
-use Rattle.responding.proofs.Handing.{Handed, refused-prints, read-hands, handed-plannable, handed-prints}
+use Rattle.responding.proofs.Handing.{Handed, refused_prints, read_hands, handed_plannable, handed_prints}
 use borrow.Author.Rules.{rules}
 use Rattle.responding.proofs.respond.Statement.{statement}
 use Rattle.responding.proofs.respond.Tie as tie
@@ -24,7 +24,7 @@ hands : (c : tie.After-zones) →
     d.read.last.1.0 d.read.last.1.1.0
 hands c =
     let d = reading c.before.before in
-    read-hands d.read.ensures (zeros-are 4096) (zeros-are 4096) c.zones.given.1
+    read_hands d.read.ensures (zeros_are 4096) (zeros_are 4096) c.zones.given.1
 
 slice-aggregate-read : tie.Need-slice-aggregate-read
 slice-aggregate-read c = search rules
@@ -45,33 +45,33 @@ returns : tie.Need-returns
 returns c =
     let m = c.before.before.before in
     let d = reading m.before.before in
-    responded (sym (refused-prints d.read.ensures (zeros-are 4096) (zeros-are 4096) m.t.given.1))
+    responded (sym (refused_prints d.read.ensures (zeros_are 4096) (zeros_are 4096) m.t.given.1))
     c.refuse.ensures
 
 enum-known-zones : tie.Need-enum-known-zones
 enum-known-zones c = search rules
 
 array-share-prefix-tails : tie.Need-array-share-prefix-tails
-array-share-prefix-tails c = (hands c.before).tails-fit
+array-share-prefix-tails c = (hands c.before).tails_fit
 
 slice-aggregate-put-planned : tie.Need-slice-aggregate-put-planned
-slice-aggregate-put-planned c = sym (length-take-le _ _ (hands c.before.before).tails-fit)
+slice-aggregate-put-planned c = sym (length-take-le _ _ (hands c.before.before).tails_fit)
 
 array-share-prefix-heads : tie.Need-array-share-prefix-heads
-array-share-prefix-heads c = (hands c.before.before).heads-fit
+array-share-prefix-heads c = (hands c.before.before).heads_fit
 
 slice-aggregate-put-planned-2 : tie.Need-slice-aggregate-put-planned-2
-slice-aggregate-put-planned-2 c = sym (length-take-le _ _ (hands c.before.before.before).heads-fit)
+slice-aggregate-put-planned-2 c = sym (length-take-le _ _ (hands c.before.before.before).heads_fit)
 
 put-planned-requires : tie.Need-put-planned-requires
-put-planned-requires c κs = handed-plannable (hands c.before.before.before.before) _ (search rules)
+put-planned-requires c κs = handed_plannable (hands c.before.before.before.before) _ (search rules)
 
 returns-2 : tie.Need-returns-2
 returns-2 c =
-    responded (handed-prints (hands c.before.before.before.before.before)) c.put-planned.ensures
+    responded (handed_prints (hands c.before.before.before.before.before)) c.put-planned.ensures
 
-pub respond-spec : {M : Type 1} → statement M
-respond-spec =
+pub respond_spec : {M : Type 1} → statement M
+respond_spec =
     tie.close
     (tie.spec
     slice-aggregate-read

@@ -4,7 +4,7 @@ use borrow.Author.Rules.{rules}
 use native.Mathlib.Omega.{arith}
 use Prim.Native.Nat.{◌<◌}
 use lib.ListN.{length}
-use Rattle.rings.proofs.Passing.{put-followed, put_alone, put-fits}
+use Rattle.rings.proofs.Passing.{put_followed, put_alone, put_fits}
 use Rattle.rings.proofs.put_one.Statement.{statement}
 use Rattle.rings.proofs.put_one.Tie as tie
 
@@ -20,7 +20,7 @@ returns-2 : tie.Need-returns-2
 returns-2 c =
     let n = read c.before in
     let a = (entry n).args in
-    put-followed a.work.now a.at a.z a.tails.now a.heads.now a.put n.wide.result
+    put_followed a.work.now a.at a.z a.tails.now a.heads.now a.put n.wide.result
     n.wide.ensures (λ e. omega (arith, c.if1.false, c.before.wide2.ensures, e))
 
 returns : tie.Need-returns
@@ -44,7 +44,7 @@ fits c =
     let n = read c.before in
     let s = entry n in
     let a = s.args in
-    put-fits a.work.now a.at a.z a.tails.now a.heads.now a.put n.wide.result n.wide.ensures
+    put_fits a.work.now a.at a.z a.tails.now a.heads.now a.put n.wide.result n.wide.ensures
     (λ e. omega (arith, c.if1.false, c.before.wide2.ensures, e)) s.pre.1.1
 
 cast-here : tie.Need-overflow-cast-here
@@ -107,8 +107,8 @@ same-length-3 c = search rules
 same-length-4 : tie.Need-same-length-4
 same-length-4 c = search rules
 
-pub put-one-spec : {M : Type 1} → statement M
-put-one-spec =
+pub put_one_spec : {M : Type 1} → statement M
+put_one_spec =
     tie.close
     (tie.spec
     cast-here

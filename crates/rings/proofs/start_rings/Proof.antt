@@ -5,7 +5,7 @@ use mathlib.Core.Path.{◌≡◌, refl, ap, ◌∙◌}
 use lib.ListN.{length}
 use lib.Seq.{sets, length-sets}
 use Rattle.rules.specs.Lists.{span}
-use Rattle.rings.proofs.Passing.{start-more}
+use Rattle.rings.proofs.Passing.{start_more}
 use borrow.Author.Rules.{rules}
 use native.Mathlib.Omega.{arith}
 use Rattle.rings.proofs.start_rings.Statement.{statement}
@@ -24,7 +24,7 @@ loop-again : tie.Need-loop-preserved invariant-loop decreases-loop
 loop-again c =
     let l = c.before.before.before in
     let a = l.before.args in
-    (start-more a.work.now l.loop.work a.at.last l.loop.a l.loop.invariant.0, omega arith)
+    (start_more a.work.now l.loop.work a.at.last l.loop.a l.loop.invariant.0, omega arith)
 
 cast-work : tie.Need-overflow-cast-work invariant-loop decreases-loop
 cast-work c = search rules
@@ -56,8 +56,8 @@ returns c =
     let all : l.loop.a ≡ l.before.args.at.zones = omega arith in
     rw all at l.loop.invariant.0
 
-pub start-rings-spec : {M : Type 1} → statement M
-start-rings-spec =
+pub start_rings_spec : {M : Type 1} → statement M
+start_rings_spec =
     tie.close
     (tie.spec
     invariant-loop

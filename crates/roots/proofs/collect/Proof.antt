@@ -7,8 +7,8 @@ use mathlib.Core.Path.{◌≡◌, refl, ◌∙◌}
 use lib.ListN.{length}
 use Rattle.workmap.specs.declared.RowsAt.{RowsAt}
 use Rattle.roots.specs.Roots.{Collectable, Collecting}
-use Rattle.roots.proofs.Collecting.{collect-begun, collect-ended, z-zone, collect-able}
-use Rattle.roots.proofs.Collecting.{collect-turn}
+use Rattle.roots.proofs.Collecting.{collect_begun, collect_ended, z_zone, collect_able}
+use Rattle.roots.proofs.Collecting.{collect_turn}
 use Rattle.roots.proofs.collect.Statement.{statement}
 use Rattle.roots.proofs.collect.Tie as tie
 
@@ -32,42 +32,42 @@ ranges : (c : tie.In-loop invariant-loop decreases-loop) →
 ranges c =
     let l = c.before.loop in
     let I = c.before.before.before.requires.1 in
-    (I.order-behind, (omega (arith, I.order-fits, l.invariant.1.0), omega (arith, l.invariant.0, c.loop-test.true)))
+    (I.order_behind, (omega (arith, I.order_fits, l.invariant.1.0), omega (arith, l.invariant.0, c.loop-test.true)))
 
 -- a zone of the order is read
 abbrev Read : Type 0
 Read = tie.After-wide invariant-loop decreases-loop
 
 -- the turn in which it is read
-abbrev turn-of : Read → tie.In-loop invariant-loop decreases-loop
-turn-of c = c.before.before
+abbrev turn_of : Read → tie.In-loop invariant-loop decreases-loop
+turn_of c = c.before.before
 
 -- the function's entry
 abbrev entry : Read → tie.Start invariant-loop decreases-loop
-entry c = (turn-of c).before.before.before
+entry c = (turn_of c).before.before.before
 
 -- The place that comes next is in the order.
-inside : (c : Read) → (turn-of c).before.loop.k - 1 < (entry c).args.turned.zones
-inside c = (ranges (turn-of c)).1.1
+inside : (c : Read) → (turn_of c).before.loop.k - 1 < (entry c).args.turned.zones
+inside c = (ranges (turn_of c)).1.1
 
 -- The pass as it stands, told at the place that comes next, for rows that the turned rows turn round.
 prior : (c : Read) (R : RowsAt) →
     let a = (entry c).args in
-    let l = (turn-of c).before.loop in
+    let l = (turn_of c).before.loop in
     Collectable a.work.now R a.turned a.order a.at →
     Collecting a.work.now l.work R a.turned a.order a.at (l.k - 1 + 1) l.tail
 prior c R I =
-    let l = (turn-of c).before.loop in
-    let e : l.k - 1 + 1 ≡ l.k = omega (arith, (turn-of c).loop-test.true) in
+    let l = (turn_of c).before.loop in
+    let e : l.k - 1 + 1 ≡ l.k = omega (arith, (turn_of c).loop-test.true) in
     rw e (l.inv.1.1 R I)
 
 -- The zone that is read is one.
 zone : (c : Read) → c.wide.result < (entry c).args.turned.zones
-zone c = let I = (entry c).requires in z-zone I.1 (inside c) (prior c I.0 I.1) c.wide.ensures
+zone c = let I = (entry c).requires in z_zone I.1 (inside c) (prior c I.0 I.1) c.wide.ensures
 
 -- The invariant holds where the loop begins.
 loop-holds : tie.Need-loop-init invariant-loop decreases-loop
-loop-holds c = (omega arith, (refl, λ R I. collect-begun I))
+loop-holds c = (omega arith, (refl, λ R I. collect_begun I))
 
 -- Sums and casts keep in range, and places are inside the memory.
 sub-k : tie.Need-overflow-sub-k invariant-loop decreases-loop
@@ -102,12 +102,12 @@ loop-again : tie.Need-loop-preserved invariant-loop decreases-loop
 loop-again c =
     let d = c.before.before in
     let u = d.before.before in
-    let l = (turn-of u).before.loop in
+    let l = (turn_of u).before.loop in
     let D = d.spread.ensures in (
       omega (arith, l.inv.0),
       (
         D.course.kept.long ∙ l.inv.1.0,
-        λ R I. collect-turn I (inside u) (prior u R I) u.wide.ensures D,
+        λ R I. collect_turn I (inside u) (prior u R I) u.wide.ensures D,
       ),
     )
 
@@ -120,18 +120,18 @@ returns : tie.Need-returns invariant-loop decreases-loop
 returns c =
     let l = c.before.loop in
     let e : l.k ≡ 0 = omega (arith, c.loop-test.false) in
-    λ R I. collect-ended I (rw e at (l.invariant.1.1 R I))
+    λ R I. collect_ended I (rw e at (l.invariant.1.1 R I))
 
 -- What `spread` asks for is so.
 spread-requires : tie.Need-spread-requires invariant-loop decreases-loop
 spread-requires c κs =
     let u = c.before in
     let I = (entry u).requires in
-    collect-able I.1 (inside u) (prior u I.0 I.1) u.wide.ensures
+    collect_able I.1 (inside u) (prior u I.0 I.1) u.wide.ensures
 
 -- The function meets its contract.
-pub collect-spec : {M : Type 1} → statement M
-collect-spec =
+pub collect_spec : {M : Type 1} → statement M
+collect_spec =
     tie.close
     (tie.spec
     invariant-loop

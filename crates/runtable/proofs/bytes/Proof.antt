@@ -5,8 +5,8 @@ use borrow.Author.Rules.{rules}
 use Rattle.runtable.proofs.bytes.Statement.{statement}
 use Rattle.runtable.proofs.bytes.Tie as tie
 
-pub bytes-spec : {M : Type 1} → statement M
-bytes-spec =
+pub bytes_spec : {M : Type 1} → statement M
+bytes_spec =
     tie.close
     (tie.spec
     (λ given out₀ i₀ out i. i ≤ 12)

@@ -5,8 +5,8 @@ use borrow.Author.Rules.{rules}
 use Rattle.runtable.proofs.label.Statement.{statement}
 use Rattle.runtable.proofs.label.Tie as tie
 
-pub label-spec : {M : Type 1} → statement M
-label-spec =
+pub label_spec : {M : Type 1} → statement M
+label_spec =
     tie.close
     (tie.spec
     (λ text from i₀ i. (from ≤ i) × (i ≤ length text))

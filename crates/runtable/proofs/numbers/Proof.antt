@@ -7,8 +7,8 @@ use borrow.Author.Rules.{rules}
 use Rattle.runtable.proofs.numbers.Statement.{statement}
 use Rattle.runtable.proofs.numbers.Tie as tie
 
-pub numbers-spec : {M : Type 1} → statement M
-numbers-spec =
+pub numbers_spec : {M : Type 1} → statement M
+numbers_spec =
     tie.close
     (tie.spec
     (λ text from given₀ k₀ i₀ given k i. (length given ≡ length given₀) × ((from ≤ i) × (i ≤ length text)))

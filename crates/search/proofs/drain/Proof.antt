@@ -7,7 +7,7 @@ use Prim.Native.Nat.{ℕ, ◌+◌, ◌≤◌, ◌<◌, ◌-◌}
 use mathlib.Core.Path.{◌≡◌, refl, ◌∙◌}
 use lib.ListN.{length, get_or}
 use Rattle.search.specs.Marking.{Spreading, Visitable}
-use Rattle.search.proofs.Course.{laid-fits, laid-now, tail-few, head-zone, head-visitable, spreading-next}
+use Rattle.search.proofs.Course.{laid_fits, laid_now, tail_few, head_zone, head_visitable, spreading_next}
 use Rattle.search.proofs.drain.Statement.{statement}
 use Rattle.search.proofs.drain.Tie as tie
 
@@ -42,52 +42,52 @@ spot : (c : Turn) → (entry c).args.at.queue + c.before.loop.head < length c.be
 spot c =
     let G = course c in
     let l = c.loop-test.true in
-    omega (arith, tail-few G l, (laid-fits (laid-now G l)).1)
+    omega (arith, tail_few G l, (laid_fits (laid_now G l)).1)
 
 -- a zone of the queue has been read
 abbrev There : Type 0
 There = tie.After-wide invariant-loop decreases-loop
 
 -- the loop's turn before it
-abbrev turn-of : There → Turn
-turn-of c = c.before.before
+abbrev turn_of : There → Turn
+turn_of c = c.before.before
 
 -- where the zone's row starts
-abbrev row-start : There → ℕ
-row-start c =
-    let a = (entry (turn-of c)).args in
-    a.rows.rows + get_or (turn-of c).before.loop.work (a.rows.starts + c.wide.result) 0
+abbrev row_start : There → ℕ
+row_start c =
+    let a = (entry (turn_of c)).args in
+    a.rows.rows + get_or (turn_of c).before.loop.work (a.rows.starts + c.wide.result) 0
 
 -- where the zone's row stops
-abbrev row-stop : There → ℕ
-row-stop c =
-    let a = (entry (turn-of c)).args in
-    a.rows.rows + get_or (turn-of c).before.loop.work (a.rows.starts + c.wide.result + 1) 0
+abbrev row_stop : There → ℕ
+row_stop c =
+    let a = (entry (turn_of c)).args in
+    a.rows.rows + get_or (turn_of c).before.loop.work (a.rows.starts + c.wide.result + 1) 0
 
 -- its start and its end lie in the work memory
 inside : (c : There) →
-    (entry (turn-of c)).args.rows.starts + c.wide.result + 1 < length (turn-of c).before.loop.work
+    (entry (turn_of c)).args.rows.starts + c.wide.result + 1 < length (turn_of c).before.loop.work
 inside c =
-    let G = course (turn-of c) in
-    let L = laid-now G (turn-of c).loop-test.true in
+    let G = course (turn_of c) in
+    let L = laid_now G (turn_of c).loop-test.true in
     omega (
       arith,
-      head-zone G (turn-of c).loop-test.true c.wide.ensures refl refl,
+      head_zone G (turn_of c).loop-test.true c.wide.ensures refl refl,
       L.order,
       L.fits,
     )
 
 -- its row can be visited
 ready : (c : There) →
-    let a = (entry (turn-of c)).args in
-    let l = (turn-of c).before.loop in
-    Visitable l.work a.rows a.at a.x (row-start c) (row-stop c) l.tail
-ready c = head-visitable (course (turn-of c)) (turn-of c).loop-test.true c.wide.ensures refl refl
+    let a = (entry (turn_of c)).args in
+    let l = (turn_of c).before.loop in
+    Visitable l.work a.rows a.at a.x (row_start c) (row_stop c) l.tail
+ready c = head_visitable (course (turn_of c)) (turn_of c).loop-test.true c.wide.ensures refl refl
 
 add-tail : tie.Need-overflow-add-tail invariant-loop decreases-loop
 add-tail c =
     let G = c.before.requires.course in
-    omega (arith, tail-few G (omega arith), G.able.able.laid.small)
+    omega (arith, tail_few G (omega arith), G.able.able.laid.small)
 
 loop-holds : tie.Need-loop-init invariant-loop decreases-loop
 loop-holds c = (omega arith, (refl, λ v from G. G))
@@ -144,14 +144,14 @@ visit-requires c κs =
 
 add-head : tie.Need-overflow-add-head invariant-loop decreases-loop
 add-head c =
-    let d = turn-of c.before.before.before.before.before.before.before.before in
+    let d = turn_of c.before.before.before.before.before.before.before.before in
     let G = course d in
-    omega (arith, tail-few G d.loop-test.taken, d.loop-test.taken, G.able.able.laid.small)
+    omega (arith, tail_few G d.loop-test.taken, d.loop-test.taken, G.able.able.laid.small)
 
 loop-less : tie.Need-loop-smaller invariant-loop decreases-loop
 loop-less c =
     let d = c.before.before.before.before.before.before.before.before in
-    omega (arith, tail-few (course (turn-of d)) (turn-of d).loop-test.true, (turn-of d).loop-test.true)
+    omega (arith, tail_few (course (turn_of d)) (turn_of d).loop-test.true, (turn_of d).loop-test.true)
 
 loop-again : tie.Need-loop-preserved invariant-loop decreases-loop
 loop-again c =
@@ -159,13 +159,13 @@ loop-again c =
     let second = c.before.before.before.before.before.before.wide2.ensures in
     let third = c.before.before.before.before.wide3.ensures in
     let d = c.before.before.before.before.before.before.before.before in
-    let i = turn-of d in
+    let i = turn_of d in
     let seen = rw (second, third) at y.ensures in (
       omega (arith, i.before.loop.inv.0, seen.grown),
       (
         seen.kept.long ∙ i.before.loop.inv.1.0,
         λ v from G.
-            spreading-next (i.before.loop.inv.1.1 v from G) i.loop-test.taken d.wide.ensures refl refl
+            spreading_next (i.before.loop.inv.1.1 v from G) i.loop-test.taken d.wide.ensures refl refl
             seen,
       ),
     )
@@ -181,8 +181,8 @@ returns c =
     let e : l.head ≡ l.tail = omega (arith, c.loop-test.false, G.high) in
     record { grown = l.invariant.0; goes_on = rw e at l.invariant.1.1 }
 
-pub drain-spec : {M : Type 1} → statement M
-drain-spec =
+pub drain_spec : {M : Type 1} → statement M
+drain_spec =
     tie.close
     (tie.spec
     invariant-loop

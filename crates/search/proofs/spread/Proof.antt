@@ -6,8 +6,8 @@ use mathlib.Core.Path.{refl}
 use Prim.Native.Nat.{◌+◌}
 use lib.ListN.{set, length-set}
 use Rattle.search.specs.Marking.{Spreading}
-use Rattle.search.proofs.Join.{joined-space}
-use Rattle.search.proofs.Course.{laid-fits, start-join, begun, spread-ended, spread_same}
+use Rattle.search.proofs.Join.{joined_space}
+use Rattle.search.proofs.Course.{laid_fits, start_join, begun, spread_ended, spread_same}
 use Rattle.search.proofs.spread.Statement.{statement}
 use Rattle.search.proofs.spread.Tie as tie
 
@@ -52,7 +52,7 @@ slice-write-work-2 : tie.Need-slice-write-work-2
 slice-write-work-2 c =
     let A = c.before.before.before.requires in
     simp length-set
-    (omega (arith, laid-fits A.able.laid, joined-space (start-join A c.if1.false refl)))
+    (omega (arith, laid_fits A.able.laid, joined_space (start_join A c.if1.false refl)))
 
 drain-requires : tie.Need-drain-requires
 drain-requires c κs =
@@ -72,10 +72,10 @@ returns-2 c =
     let f = d.before.before in
     let a = f.before.before.before.args in
     let D = d.drain.ensures in
-    spread-ended (D.goes_on a.work.now a.from (met f)) D.grown
+    spread_ended (D.goes_on a.work.now a.from (met f)) D.grown
 
-pub spread-spec : {M : Type 1} → statement M
-spread-spec =
+pub spread_spec : {M : Type 1} → statement M
+spread_spec =
     tie.close
     (tie.spec
     add-if1

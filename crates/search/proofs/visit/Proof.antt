@@ -5,11 +5,11 @@ use native.Mathlib.Omega.{arith}
 use Prim.Native.Nat.{ℕ, ◌+◌, ◌≤◌, ◌<◌, ◌-◌}
 use mathlib.Core.Path.{◌≡◌, refl}
 use lib.ListN.{length, get_or, set, length-set}
-use Rattle.arranged.specs.Marks.{First-in}
+use Rattle.arranged.specs.Marks.{FirstIn}
 use Rattle.arranged.specs.declared.Found.TheVariants.{At}
 use Rattle.search.specs.Marking.{Visited}
-use Rattle.search.proofs.Join.{Join, joined-space}
-use Rattle.search.proofs.Turn.{visit-none, visit-done, visit-join, visit-more, past}
+use Rattle.search.proofs.Join.{Join, joined_space}
+use Rattle.search.proofs.Turn.{visit_none, visit_done, visit_join, visit_more, past}
 use Rattle.search.proofs.visit.Statement.{statement}
 use Rattle.search.proofs.visit.Tie as tie
 
@@ -29,8 +29,8 @@ abbrev entry : Here → tie.Start invariant-loop decreases-loop
 entry c = c.before.before.before.before.before.before.before
 
 -- the loop's turn
-abbrev turn-of : Here → tie.At-loop invariant-loop decreases-loop
-turn-of c = c.before.before.before.before.before
+abbrev turn_of : Here → tie.At-loop invariant-loop decreases-loop
+turn_of c = c.before.before.before.before.before
 
 -- the place found
 abbrev found_at : Here → ℕ
@@ -39,34 +39,34 @@ found_at c = c.i.given.0.0
 -- what the step said
 found : (c : Here) →
     let a = (entry c).args in
-    let l = (turn-of c).loop in
-    First-in l.work l.a a.to a.at.marks (At (found_at c))
+    let l = (turn_of c).loop in
+    FirstIn l.work l.a a.to a.at.marks (At (found_at c))
 found c = rw c.i.given.1 at c.before.before.step.ensures
 
 -- the zone found gets the mark and joins the queue
 joins : (c : Here) →
     let a = (entry c).args in
-    let l = (turn-of c).loop in
+    let l = (turn_of c).loop in
     let h = get_or l.work (l.a + found_at c) 0 in
     Join l.work (set (set l.work (a.at.marks + h) a.x) (a.at.queue + l.end) h) a.at a.rows.zones
     a.x l.end h
 joins c =
-    let l = (turn-of c).loop in
-    visit-join (entry c).requires l.inv.1.1 l.inv.0 l.inv.1.0 (found_at c) refl (found c) refl
+    let l = (turn_of c).loop in
+    visit_join (entry c).requires l.inv.1.1 l.inv.0 l.inv.1.0 (found_at c) refl (found c) refl
 
 -- the place found lies in the row
-in_row : (c : Here) → (turn-of c).loop.a + found_at c < (entry c).args.to
+in_row : (c : Here) → (turn_of c).loop.a + found_at c < (entry c).args.to
 in_row c = (found c).0
 
 -- the row lies in the work memory
-row_inside : (c : Here) → (entry c).args.to ≤ length (turn-of c).loop.work
-row_inside c = omega (arith, (entry c).requires.fits, (turn-of c).loop.invariant.1.1.kept.long)
+row_inside : (c : Here) → (entry c).args.to ≤ length (turn_of c).loop.work
+row_inside c = omega (arith, (entry c).requires.fits, (turn_of c).loop.invariant.1.1.kept.long)
 
 loop-holds : tie.Need-loop-init invariant-loop decreases-loop
 loop-holds c =
     let a = c.before.args in (
       search rules,
-      (c.before.requires.order, visit-none a.work.now a.rows a.at a.x a.from a.tail),
+      (c.before.requires.order, visit_none a.work.now a.rows a.at a.x a.from a.tail),
     )
 
 step-requires : tie.Need-step-requires invariant-loop decreases-loop
@@ -90,7 +90,7 @@ same_length c = search rules
 returns : tie.Need-returns invariant-loop decreases-loop
 returns c =
     let l = c.before.before.before.before.before.loop in
-    visit-done c.before.before.before.before.before.before.before.requires l.invariant.1.1 l.invariant.0
+    visit_done c.before.before.before.before.before.before.before.requires l.invariant.1.1 l.invariant.0
     l.invariant.1.0 (rw c.enum_told.given.1 at c.before.before.step.ensures)
 
 enum-known-i : tie.Need-enum-known-i invariant-loop decreases-loop
@@ -120,18 +120,18 @@ slice-write-work c =
     omega (arith, J.apart, J.fits, J.zone, c.wide.ensures)
 
 add-work : tie.Need-overflow-add-work invariant-loop decreases-loop
-add-work c = let J = joins c.before.before.before in omega (arith, J.fits, joined-space J)
+add-work c = let J = joins c.before.before.before in omega (arith, J.fits, joined_space J)
 
 mul-work-2 : tie.Need-overflow-mul-work-2 invariant-loop decreases-loop
-mul-work-2 c = let J = joins c.before.before.before in omega (arith, J.fits, joined-space J)
+mul-work-2 c = let J = joins c.before.before.before in omega (arith, J.fits, joined_space J)
 
 slice-write-work-2 : tie.Need-slice-write-work-2 invariant-loop decreases-loop
 slice-write-work-2 c =
     let J = joins c.before.before.before in
-    simp length-set (omega (arith, J.fits, joined-space J))
+    simp length-set (omega (arith, J.fits, joined_space J))
 
 add-end : tie.Need-overflow-add-end invariant-loop decreases-loop
-add-end c = let J = joins c.before.before.before in omega (arith, J.fits, joined-space J)
+add-end c = let J = joins c.before.before.before in omega (arith, J.fits, joined_space J)
 
 add_a : tie.Need-overflow-add-a invariant-loop decreases-loop
 add_a c = let d = c.before.before.before in omega (arith, in_row d, row_inside d)
@@ -145,11 +145,11 @@ loop-less c = search rules
 loop-again : tie.Need-loop-preserved invariant-loop decreases-loop
 loop-again c =
     let d = c.before.before.before in
-    let l = (turn-of d).loop in (
+    let l = (turn_of d).loop in (
       omega (arith, l.inv.0),
       (
         omega (arith, in_row d),
-        visit-more (entry d).requires l.inv.1.1 l.inv.0 l.inv.1.0 (found_at d) refl (found d)
+        visit_more (entry d).requires l.inv.1.1 l.inv.0 l.inv.1.0 (found_at d) refl (found d)
             (rw c.wide.ensures),
       ),
     )
@@ -160,11 +160,11 @@ same-length-2 c = search rules
 returns-2 : tie.Need-returns-2 invariant-loop decreases-loop
 returns-2 c =
     let l = c.before.loop in
-    visit-done c.before.before.before.requires l.invariant.1.1 l.invariant.0 l.invariant.1.0
+    visit_done c.before.before.before.requires l.invariant.1.1 l.invariant.0 l.invariant.1.0
     (λ k low high. absurd (omega (arith, c.loop-test.false)))
 
-pub visit-spec : {M : Type 1} → statement M
-visit-spec =
+pub visit_spec : {M : Type 1} → statement M
+visit_spec =
     tie.close
     (tie.spec
     invariant-loop

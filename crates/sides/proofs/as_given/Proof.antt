@@ -2,7 +2,7 @@
 use mathlib.Core.Path.{refl}
 use mathlib.Core.Logic.{inl}
 use native.Mathlib.Omega.{arith}
-use Rattle.workmap.proofs.Places.{placed, searches-placed, lists-placed, pairs-placed, links-placed}
+use Rattle.workmap.proofs.Places.{placed, searches_placed, lists_placed, pairs_placed, links_placed}
 use Rattle.sides.proofs.as_given.Statement.{statement}
 use Rattle.sides.proofs.as_given.Tie as tie
 
@@ -10,28 +10,28 @@ returns : tie.Need-returns
 returns c =
     let e = c.before.before.before.before.before.requires in
     let a = placed e in
-    let b = searches-placed e in
-    let l = lists-placed e in
-    let p = pairs-placed e in
-    let k = links-placed e in
+    let b = searches_placed e in
+    let l = lists_placed e in
+    let p = pairs_placed e in
+    let k = links_placed e in
     record {
       roomy =
           record {
-            marks-before = omega arith;
-            sources-behind = omega arith;
-            sinks-behind = omega arith;
-            lists-apart = inl (omega arith);
-            sources-before = omega arith;
-            sinks-before = omega arith;
-            alone-before = omega arith;
-            firsts-before = omega arith;
-            seconds-before = omega arith;
-            lone-before = omega arith;
-            whys-before = omega arith;
-            from-before = omega arith;
-            to-before = omega arith;
-            columns-apart = inl (omega arith);
-            stations-before = omega arith;
+            marks_before = omega arith;
+            sources_behind = omega arith;
+            sinks_behind = omega arith;
+            lists_apart = inl (omega arith);
+            sources_before = omega arith;
+            sinks_before = omega arith;
+            alone_before = omega arith;
+            firsts_before = omega arith;
+            seconds_before = omega arith;
+            lone_before = omega arith;
+            whys_before = omega arith;
+            from_before = omega arith;
+            to_before = omega arith;
+            columns_apart = inl (omega arith);
+            stations_before = omega arith;
           };
       below = omega arith;
       stands = λ w N B. B.given;
@@ -39,5 +39,5 @@ returns c =
       columns = λ w ls C. C;
     }
 
-pub as-given-spec : {M : Type 1} → statement M
-as-given-spec = tie.close (tie.spec returns)
+pub as_given_spec : {M : Type 1} → statement M
+as_given_spec = tie.close (tie.spec returns)

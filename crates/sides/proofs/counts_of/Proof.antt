@@ -14,5 +14,5 @@ returns : tie.Need-returns
 returns c o xs pairs sources sinks alone =
     record { pairs = pairs; sources = omega arith; sinks = omega arith; alone = alone }
 
-pub counts-of-spec : {M : Type 1} → statement M
-counts-of-spec = tie.close (tie.spec sub-sources sub-sinks returns)
+pub counts_of_spec : {M : Type 1} → statement M
+counts_of_spec = tie.close (tie.spec sub-sources sub-sinks returns)

@@ -2,8 +2,8 @@
 use mathlib.Core.Path.{◌≡◌}
 use mathlib.Core.Logic.{inr}
 use native.Mathlib.Omega.{arith}
-use Rattle.workmap.proofs.Places.{placed, searches-placed, lists-placed, pairs-placed, links-placed}
-use Rattle.sides.proofs.Turning.{stands-turned, columns-turned}
+use Rattle.workmap.proofs.Places.{placed, searches_placed, lists_placed, pairs_placed, links_placed}
+use Rattle.sides.proofs.Turning.{stands_turned, columns_turned}
 use Rattle.sides.proofs.turned_round.Statement.{statement}
 use Rattle.sides.proofs.turned_round.Tie as tie
 
@@ -13,35 +13,35 @@ returns c =
     let e = s.requires in
     let m = s.args.m in
     let a = placed e in
-    let b = searches-placed e in
-    let l = lists-placed e in
-    let p = pairs-placed e in
-    let k = links-placed e in
+    let b = searches_placed e in
+    let l = lists_placed e in
+    let p = pairs_placed e in
+    let k = links_placed e in
     let same : m.turned.zones ≡ m.rows.zones = omega arith in
     record {
-      columns = λ w ls C. columns-turned ls C.ends_held C.starts-held C.whys-held;
+      columns = λ w ls C. columns_turned ls C.ends_held C.starts_held C.whys_held;
       roomy =
           record {
-            marks-before = omega arith;
-            sources-behind = omega arith;
-            sinks-behind = omega arith;
-            lists-apart = inr (omega arith);
-            sources-before = omega arith;
-            sinks-before = omega arith;
-            alone-before = omega arith;
-            firsts-before = omega arith;
-            seconds-before = omega arith;
-            lone-before = omega arith;
-            whys-before = omega arith;
-            from-before = omega arith;
-            to-before = omega arith;
-            columns-apart = inr (omega arith);
-            stations-before = omega arith;
+            marks_before = omega arith;
+            sources_behind = omega arith;
+            sinks_behind = omega arith;
+            lists_apart = inr (omega arith);
+            sources_before = omega arith;
+            sinks_before = omega arith;
+            alone_before = omega arith;
+            firsts_before = omega arith;
+            seconds_before = omega arith;
+            lone_before = omega arith;
+            whys_before = omega arith;
+            from_before = omega arith;
+            to_before = omega arith;
+            columns_apart = inr (omega arith);
+            stations_before = omega arith;
           };
       below = omega arith;
-      stands = λ w N B. stands-turned N same B.given B.turned_round B.turned-fits;
+      stands = λ w N B. stands_turned N same B.given B.turned_round B.turned_fits;
       zones = same;
     }
 
-pub turned-round-spec : {M : Type 1} → statement M
-turned-round-spec = tie.close (tie.spec returns)
+pub turned_round_spec : {M : Type 1} → statement M
+turned_round_spec = tie.close (tie.spec returns)

@@ -2,9 +2,9 @@
 -- put. Assumes nothing.
 use borrow.Author.Rules.{rules}
 use mathlib.Core.Path.{◌≡◌, sym, ap, ◌∙◌}
-use Rattle.rules.specs.Calls.{skeleton-trouble}
-use Rattle.probes.specs.Tested.{tested-trouble}
-use Rattle.skeleton.proofs.Answering.{skeleton-sketchable, skeleton-refused, skeleton-done}
+use Rattle.rules.specs.Calls.{skeleton_trouble}
+use Rattle.probes.specs.Tested.{tested_trouble}
+use Rattle.skeleton.proofs.Answering.{skeleton_sketchable, skeleton_refused, skeleton_done}
 use Rattle.skeleton.proofs.skeleton.Statement.{statement}
 use Rattle.skeleton.proofs.skeleton.Tie as tie
 
@@ -19,9 +19,9 @@ entry c = c.before.before.before.before.before.before.before.before.before.befor
 -- what was found is SKELETON's trouble
 found : (c : Tried) →
     let a = (entry c).args in
-    skeleton-trouble a.zones a.tails.now a.heads.now a.gone.now a.from.now a.to.now
+    skeleton_trouble a.zones a.tails.now a.heads.now a.gone.now a.from.now a.to.now
     a.work.now
-    ≡ tested-trouble c.skeleton.result
+    ≡ tested_trouble c.skeleton.result
 found c = sym c.skeleton.ensures
 
 skeleton-requires : tie.Need-skeleton-requires
@@ -43,9 +43,9 @@ returns : tie.Need-returns
 returns c =
     let d = c.before.before.before in
     let a = (entry d).args in
-    skeleton-refused a.zones a.tails.now a.heads.now a.gone.now a.from.now a.to.now
+    skeleton_refused a.zones a.tails.now a.heads.now a.gone.now a.from.now a.to.now
     a.work.now
-    c.before.t.given.0.0 (found d ∙ ap tested-trouble c.before.t.given.1)
+    c.before.t.given.0.0 (found d ∙ ap tested_trouble c.before.t.given.1)
 
 enum_told : tie.Need-enum-told
 enum_told c = search rules
@@ -55,9 +55,9 @@ sketch-requires c κs =
     let e = c.before.before.before in
     let d = e.before.before in
     let a = (entry d).args in
-    (skeleton-sketchable a.zones a.tails.now a.heads.now a.gone.now a.from.now a.to.now
+    (skeleton_sketchable a.zones a.tails.now a.heads.now a.gone.now a.from.now a.to.now
     a.work.now
-    (found d ∙ ap tested-trouble e.enum_told.given.1)
+    (found d ∙ ap tested_trouble e.enum_told.given.1)
     ).0
 
 same-length-4 : tie.Need-same-length-4
@@ -76,13 +76,13 @@ returns-2 c =
     let d = e.before.before in
     let a = (entry d).args in
     let s = k.sketch in
-    skeleton-done a.zones a.tails.now a.heads.now a.gone.now a.from.now a.to.now a.work.now
+    skeleton_done a.zones a.tails.now a.heads.now a.gone.now a.from.now a.to.now a.work.now
     s.result
     s.new.1.1.1.0 s.new.1.1.1.1.0 s.new.1.1.1.1.1.0
-    (found d ∙ ap tested-trouble e.enum_told.given.1) s.ensures
+    (found d ∙ ap tested_trouble e.enum_told.given.1) s.ensures
 
-pub skeleton-spec : {M : Type 1} → statement M
-skeleton-spec =
+pub skeleton_spec : {M : Type 1} → statement M
+skeleton_spec =
     tie.close
     (tie.spec
     skeleton-requires

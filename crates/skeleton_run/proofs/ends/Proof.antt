@@ -4,8 +4,8 @@ use borrow.Author.Rules.{rules}
 use Rattle.skeleton_run.proofs.ends.Statement.{statement}
 use Rattle.skeleton_run.proofs.ends.Tie as tie
 
-pub ends-spec : {M : Type 1} → statement M
-ends-spec =
+pub ends_spec : {M : Type 1} → statement M
+ends_spec =
     tie.close
     (tie.spec
     (λ which list₀ i₀ list i. i ≤ 4096)

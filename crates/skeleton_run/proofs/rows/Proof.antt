@@ -5,8 +5,8 @@ use borrow.Author.Rules.{rules}
 use Rattle.skeleton_run.proofs.rows.Statement.{statement}
 use Rattle.skeleton_run.proofs.rows.Tie as tie
 
-pub rows-spec : {M : Type 1} → statement M
-rows-spec =
+pub rows_spec : {M : Type 1} → statement M
+rows_spec =
     tie.close
     (tie.spec
     (λ text from₀ from. 0 ≤ from)

@@ -5,8 +5,8 @@ use borrow.Author.Rules.{rules}
 use Rattle.skeleton_run.proofs.show_arcs.Statement.{statement}
 use Rattle.skeleton_run.proofs.show_arcs.Tie as tie
 
-pub show-arcs-spec : {M : Type 1} → statement M
-show-arcs-spec =
+pub show_arcs_spec : {M : Type 1} → statement M
+show_arcs_spec =
     tie.close
     (tie.spec
     (λ from to i₀ i. i ≤ length from)

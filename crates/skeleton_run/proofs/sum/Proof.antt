@@ -5,8 +5,8 @@ use borrow.Author.Rules.{rules}
 use Rattle.skeleton_run.proofs.sum.Statement.{statement}
 use Rattle.skeleton_run.proofs.sum.Tie as tie
 
-pub sum-spec : {M : Type 1} → statement M
-sum-spec =
+pub sum_spec : {M : Type 1} → statement M
+sum_spec =
     tie.close
     (tie.spec
     (λ list total₀ i₀ total i. i ≤ length list)

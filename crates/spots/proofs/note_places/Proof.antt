@@ -5,44 +5,44 @@ use Prim.Native.Nat.{◌+◌, ◌-◌, ◌≤◌, ◌<◌}
 use lib.ListN.{length, length-set}
 use borrow.Author.Rules.{rules}
 use native.Mathlib.Omega.{arith}
-use Rattle.spots.specs.Spots.{Places-noted}
-use Rattle.spots.proofs.SpotLaws.{note-start, top-low, note-turn}
+use Rattle.spots.specs.Spots.{PlacesNoted}
+use Rattle.spots.proofs.SpotLaws.{note_start, top_low, note_turn}
 use Rattle.spots.proofs.note_places.Statement.{statement}
 use Rattle.spots.proofs.note_places.Tie as tie
 
 abbrev invariant-loop : tie.invariant-loop
-invariant-loop work₀ at places place₀ work place = (place ≤ places) × Places-noted work₀ work at place
+invariant-loop work₀ at places place₀ work place = (place ≤ places) × PlacesNoted work₀ work at place
 
 abbrev decreases-loop : tie.decreases-loop
 decreases-loop work₀ at places place₀ work place = places - place
 
 -- the next name is a zone
-name-low : (c : tie.After-wide invariant-loop decreases-loop) →
+name_low : (c : tie.After-wide invariant-loop decreases-loop) →
     c.wide.result < c.before.before.before.before.before.args.at.zones
-name-low c =
+name_low c =
     let l = c.before.before.before in
     let s = l.before.before in
     let a = s.args in
     omega (
       arith,
       c.wide.ensures,
-      top-low a.work.now a.at a.places s.requires
+      top_low a.work.now a.at a.places s.requires
           l.loop.work l.loop.place l.loop.invariant.1 (omega arith),
     )
 
 -- both stores are in the memory, and the place fits an element
-stores-fit : (c : tie.After-wide invariant-loop decreases-loop) →
+stores_fit : (c : tie.After-wide invariant-loop decreases-loop) →
     let l = c.before.before.before in
     let a = l.before.before.args in
     (a.at.spots + c.wide.result < length l.loop.work)
     × (a.at.order + l.loop.place < length l.loop.work)
     × (l.loop.place < 1024)
-stores-fit c =
+stores_fit c =
     let l = c.before.before.before in
     let P = l.before.before.requires in
-    let low = name-low c in
+    let low = name_low c in
     let long = l.loop.invariant.1.long in (
-      omega (arith, low, P.spots-low, P.tops-low, P.names-low, P.fits, long),
+      omega (arith, low, P.spots_low, P.tops_low, P.names_low, P.fits, long),
       omega (arith, P.few, P.fits, long),
       omega (arith, P.few, P.small),
     )
@@ -54,14 +54,14 @@ loop-again c =
     let a = s.args in (
       omega arith,
       rw c.wide.ensures
-          (note-turn a.work.now a.at a.places s.requires
+          (note_turn a.work.now a.at a.places s.requires
           l.loop.work l.loop.place l.loop.invariant.1 (omega arith)),
     )
 
 loop-holds : tie.Need-loop-init invariant-loop decreases-loop
 loop-holds c =
     let a = c.before.args in
-    (omega arith, note-start a.work.now a.at)
+    (omega arith, note_start a.work.now a.at)
 
 add-name : tie.Need-overflow-add-name invariant-loop decreases-loop
 add-name c = search rules
@@ -76,25 +76,25 @@ wide-requires : tie.Need-wide-requires invariant-loop decreases-loop
 wide-requires c κs = search rules
 
 add-to : tie.Need-overflow-add-to invariant-loop decreases-loop
-add-to c = omega (arith, stores-fit c)
+add-to c = omega (arith, stores_fit c)
 
 cast-work : tie.Need-overflow-cast-work invariant-loop decreases-loop
-cast-work c = omega (arith, stores-fit c)
+cast-work c = omega (arith, stores_fit c)
 
 mul-work : tie.Need-overflow-mul-work invariant-loop decreases-loop
-mul-work c = omega (arith, stores-fit c)
+mul-work c = omega (arith, stores_fit c)
 
 slice-write-work : tie.Need-slice-write-work invariant-loop decreases-loop
-slice-write-work c = omega (arith, stores-fit c)
+slice-write-work c = omega (arith, stores_fit c)
 
 add-work : tie.Need-overflow-add-work invariant-loop decreases-loop
-add-work c = omega (arith, stores-fit c)
+add-work c = omega (arith, stores_fit c)
 
 mul-work-2 : tie.Need-overflow-mul-work-2 invariant-loop decreases-loop
-mul-work-2 c = omega (arith, stores-fit c)
+mul-work-2 c = omega (arith, stores_fit c)
 
 slice-write-work-2 : tie.Need-slice-write-work-2 invariant-loop decreases-loop
-slice-write-work-2 c = rw length-set (omega (arith, stores-fit c))
+slice-write-work-2 c = rw length-set (omega (arith, stores_fit c))
 
 add-place : tie.Need-overflow-add-place invariant-loop decreases-loop
 add-place c = search rules
@@ -111,8 +111,8 @@ returns c =
     let e : l.place ≡ c.before.before.before.args.places = omega arith in
     rw e at l.invariant.1
 
-pub note-places-spec : {M : Type 1} → statement M
-note-places-spec =
+pub note_places_spec : {M : Type 1} → statement M
+note_places_spec =
     tie.close
     (tie.spec
     invariant-loop

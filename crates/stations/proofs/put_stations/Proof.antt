@@ -3,9 +3,9 @@
 use Prim.Native.Nat.{◌+◌, ◌≤◌, min}
 use mathlib.Core.Path.{◌≡◌, ◌∙◌}
 use lib.ListN.{length}
-use Rattle.stations.specs.Stations.{first-at, stations-end}
-use Rattle.memory.proofs.Copies.{copied-long}
-use Rattle.stations.proofs.Pieces.{first-inside, stationed}
+use Rattle.stations.specs.Stations.{first_at, stations_end}
+use Rattle.memory.proofs.Copies.{copied_long}
+use Rattle.stations.proofs.Pieces.{first_inside, stationed}
 use borrow.Author.Rules.{rules}
 use native.Mathlib.Omega.{arith}
 use Rattle.stations.proofs.put_stations.Statement.{statement}
@@ -28,27 +28,27 @@ abbrev three : tie.After-first-at → tie.After-copy3
 three c = c.before.before.before.before
 
 -- how many last sinks there are: one, or none
-last-is : (c : tie.After-copy) →
+last_is : (c : tie.After-copy) →
     c.before.before.before.before.before.before.before.before.one_of.result ≡ min 1 (start c).args.n.pairs
-last-is c = c.before.before.before.before.before.before.before.before.one_of.ensures
+last_is c = c.before.before.before.before.before.before.before.before.one_of.ensures
 
 -- how many last stations there are: one, or none
-first-is : (c : tie.After-copy) →
+first_is : (c : tie.After-copy) →
     c.before.before.before.before.before.one-of2.result
     ≡ min 1 ((start c).args.n.pairs + (start c).args.n.alone)
-first-is c = c.before.before.before.before.before.one-of2.ensures
+first_is c = c.before.before.before.before.before.one-of2.ensures
 
 -- the last station lies behind the stretch for the stations, and in the memory
 inside : (s : tie.Start) →
-    (stations-end s.args.p ≤ first-at s.args.n.pairs s.args.p.pairs.firsts s.args.p.lists.alone)
-    × (first-at s.args.n.pairs s.args.p.pairs.firsts s.args.p.lists.alone + min 1
+    (stations_end s.args.p ≤ first_at s.args.n.pairs s.args.p.pairs.firsts s.args.p.lists.alone)
+    × (first_at s.args.n.pairs s.args.p.pairs.firsts s.args.p.lists.alone + min 1
     (s.args.n.pairs + s.args.n.alone)
     ≤ length s.args.work.now)
 inside s =
     let P = s.requires in
-    first-inside (stations-end s.args.p) (length s.args.work.now) s.args.n.pairs
-    s.args.n.alone s.args.p.pairs.firsts s.args.p.lists.alone P.v-apart P.alone-apart
-    (omega (arith, P.v-fits, P.why-fits)) (omega (arith, P.alone-fit, P.why-fits))
+    first_inside (stations_end s.args.p) (length s.args.work.now) s.args.n.pairs
+    s.args.n.alone s.args.p.pairs.firsts s.args.p.lists.alone P.v_apart P.alone_apart
+    (omega (arith, P.v_fits, P.why_fits)) (omega (arith, P.alone_fit, P.why_fits))
 
 one-of-requires : tie.Need-one-of-requires
 one-of-requires c κs = search rules
@@ -81,28 +81,28 @@ add-copy-2 : tie.Need-overflow-add-copy-2
 add-copy-2 c =
     let d = c.before.before.before.before.before in
     let P = (start d).requires in
-    omega (arith, P.sinks-fit, P.order, P.why-fits, (start d).well-formed.0)
+    omega (arith, P.sinks_fit, P.order, P.why_fits, (start d).well-formed.0)
 
 add-copy-3 : tie.Need-overflow-add-copy-3
 add-copy-3 c =
     let d = c.before.before.before.before.before.before in
     let P = (start d).requires in
-    omega (arith, last-is d, P.room, P.alone-apart, P.alone-fit, P.why-fits, (start d).well-formed.0)
+    omega (arith, last_is d, P.room, P.alone_apart, P.alone_fit, P.why_fits, (start d).well-formed.0)
 
 copy-requires-2 : tie.Need-copy-requires-2
 copy-requires-2 c κs =
     let d = c.before.before.before.before.before.before in
     let P = (start d).requires in
     record {
-      apart = omega (arith, last-is d, P.room, P.sinks-apart);
-      fits = omega (arith, P.sinks-fit, P.order, P.why-fits, copied-long d.copy.ensures);
+      apart = omega (arith, last_is d, P.room, P.sinks_apart);
+      fits = omega (arith, P.sinks_fit, P.order, P.why_fits, copied_long d.copy.ensures);
     }
 
 add-copy-4 : tie.Need-overflow-add-copy-4
 add-copy-4 c =
     let d = one c.before.before.before.before in
     let P = (start d).pre in
-    omega (arith, last-is d, P.room, P.alone-apart, P.alone-fit, P.why-fits, (start d).good.0)
+    omega (arith, last_is d, P.room, P.alone_apart, P.alone_fit, P.why_fits, (start d).good.0)
 
 copy-requires-3 : tie.Need-copy-requires-3
 copy-requires-3 c κs =
@@ -110,8 +110,8 @@ copy-requires-3 c κs =
     let d = one e in
     let P = (start d).pre in
     record {
-      apart = omega (arith, last-is d, P.room, P.alone-apart);
-      fits = omega (arith, P.alone-fit, P.why-fits, copied-long e.copy2.ensures, copied-long d.copy.ensures);
+      apart = omega (arith, last_is d, P.room, P.alone_apart);
+      fits = omega (arith, P.alone_fit, P.why_fits, copied_long e.copy2.ensures, copied_long d.copy.ensures);
     }
 
 first-at-requires : tie.Need-first-at-requires
@@ -121,7 +121,7 @@ add-copy-5 : tie.Need-overflow-add-copy-5
 add-copy-5 c =
     let d = one (two (three c.before)) in
     let P = (start d).pre in
-    omega (arith, last-is d, P.room, P.alone-apart, P.alone-fit, P.why-fits, (start d).good.0)
+    omega (arith, last_is d, P.room, P.alone_apart, P.alone_fit, P.why_fits, (start d).good.0)
 
 copy-requires-4 : tie.Need-copy-requires-4
 copy-requires-4 c κs =
@@ -131,16 +131,16 @@ copy-requires-4 c κs =
     let P = (start d).pre in
     let at = c.before.first-at.ensures in
     record {
-      apart = omega (arith, at, last-is d, first-is d, P.room, (inside (start d)).0);
+      apart = omega (arith, at, last_is d, first_is d, P.room, (inside (start d)).0);
       fits =
           omega (
             arith,
             at,
-            first-is d,
+            first_is d,
             (inside (start d)).1,
-            copied-long f.copy3.ensures,
-            copied-long e.copy2.ensures,
-            copied-long d.copy.ensures,
+            copied_long f.copy3.ensures,
+            copied_long e.copy2.ensures,
+            copied_long d.copy.ensures,
           );
     }
 
@@ -148,7 +148,7 @@ add-result : tie.Need-overflow-add-result
 add-result c =
     let d = one (two (three c.before.before.before.before)) in
     let P = (start d).pre in
-    omega (arith, last-is d, first-is d, P.room, P.alone-apart, P.alone-fit, P.why-fits, (start d).good.0)
+    omega (arith, last_is d, first_is d, P.room, P.alone_apart, P.alone_fit, P.why_fits, (start d).good.0)
 
 same_length : tie.Need-same-length
 same_length c =
@@ -168,11 +168,11 @@ returns c =
     f.copy3.last.0 c.before.before.copy4.new.0
     d.before.before.before.before.before.before.before.before.one_of.result
     d.before.before.before.before.before.one-of2.result
-    g.first-at.result (last-is d) (first-is d) g.first-at.ensures d.copy.ensures e.copy2.ensures
+    g.first-at.result (last_is d) (first_is d) g.first-at.ensures d.copy.ensures e.copy2.ensures
     f.copy3.ensures c.before.before.copy4.ensures
 
-pub put-stations-spec : {M : Type 1} → statement M
-put-stations-spec =
+pub put_stations_spec : {M : Type 1} → statement M
+put_stations_spec =
     tie.close
     (tie.spec
     one-of-requires

@@ -6,12 +6,12 @@ use native.Mathlib.Omega.{arith}
 use Prim.Native.Nat.{◌≤◌, ◌-◌}
 use mathlib.Core.Path.{refl}
 use mathlib.Core.Bool.{false≢true}
-use Rattle.strength.specs.Marks.{All-marked}
+use Rattle.strength.specs.Marks.{AllMarked}
 use Rattle.strength.proofs.all_marked.Statement.{statement}
 use Rattle.strength.proofs.all_marked.Tie as tie
 
 abbrev invariant-loop : tie.invariant-loop
-invariant-loop work marks zones i₀ i = (i ≤ zones) × All-marked work marks i
+invariant-loop work marks zones i₀ i = (i ≤ zones) × AllMarked work marks i
 
 abbrev decreases-loop : tie.decreases-loop
 decreases-loop work marks zones i₀ i = zones - i
@@ -49,8 +49,8 @@ returns-2 c =
     let l = c.before.loop in
     record { yes = λ e v h. l.invariant.1 v (omega arith); no = λ all. refl }
 
-pub all-marked-spec : {M : Type 1} → statement M
-all-marked-spec =
+pub all_marked_spec : {M : Type 1} → statement M
+all_marked_spec =
     tie.close
     (tie.spec
     invariant-loop

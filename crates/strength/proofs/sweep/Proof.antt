@@ -39,5 +39,5 @@ returns c =
     c.all-marked.result s.pre.able.laid.apart s.pre.clear d.search.ensures (omega arith)
     t.stamp.ensures c.all-marked.ensures
 
-pub sweep-spec : {M : Type 1} → statement M
-sweep-spec = tie.close (tie.spec search-requires stamp-requires all-marked-requires same_length returns)
+pub sweep_spec : {M : Type 1} → statement M
+sweep_spec = tie.close (tie.spec search-requires stamp-requires all-marked-requires same_length returns)

@@ -1,9 +1,9 @@
 -- `survey::survey` meets its contract: each step asks for what the ones before it leave. Assumes nothing.
 use borrow.Author.Rules.{rules}
-use Rattle.rules.specs.Network.{network-of}
-use Rattle.rules.specs.Calls.{arcs-of}
+use Rattle.rules.specs.Network.{network_of}
+use Rattle.rules.specs.Calls.{arcs_of}
 use Rattle.components.specs.Components.{Lent, Components}
-use Rattle.survey.proofs.Surveying.{for-naming, for-leaving-out, for-listing, surveyed}
+use Rattle.survey.proofs.Surveying.{for_naming, for_leaving_out, for_listing, surveyed}
 use Rattle.survey.proofs.survey.Statement.{statement}
 use Rattle.survey.proofs.survey.Tie as tie
 
@@ -21,7 +21,7 @@ lent : (r : tie.After-ready) →
     Lent r.ready.new.1.1.1.0 a.m a.tails.now a.heads.now
 lent r =
     let a = (start r).args in
-    for-naming a.m a.tails.now a.heads.now a.gone.now a.work.now (start r).requires
+    for_naming a.m a.tails.now a.heads.now a.gone.now a.work.now (start r).requires
     r.ready.new.1.1.1.0 r.ready.ensures
 
 -- and then they are named
@@ -29,7 +29,7 @@ named : (m : tie.After-name-all) →
     let r = rows m in
     let a = (start r).args in
     Components r.ready.last.1.1.1.0 m.name-all.new.0 a.m
-    (network-of a.m.zones (arcs-of a.tails.now a.heads.now)) m.name-all.result
+    (network_of a.m.zones (arcs_of a.tails.now a.heads.now)) m.name-all.result
 named m =
     let r = rows m in
     let a = (start r).args in
@@ -49,9 +49,9 @@ list-kinds-requires c κs =
     let m = c.before.before.before in
     let r = rows m in
     let a = (start r).args in (
-      for-listing a.m a.tails.now a.heads.now a.gone.now a.work.now (start r).pre
+      for_listing a.m a.tails.now a.heads.now a.gone.now a.work.now (start r).pre
           r.ready.last.1.1.1.0 r.ready.ensures m.name-all.new.0 m.name-all.result (named m),
-      for-leaving-out a.m a.tails.now a.heads.now a.gone.now a.work.now (start r).pre
+      for_leaving_out a.m a.tails.now a.heads.now a.gone.now a.work.now (start r).pre
           r.ready.last.1.1.1.0 r.ready.ensures,
     )
 
@@ -68,7 +68,7 @@ returns c =
     r.ready.last.1.1.1.0 r.ready.ensures m.name-all.new.0 m.name-all.result (named m)
     k.list-kinds.new.1.1.1.1.1.0 k.list-kinds.result k.list-kinds.ensures
 
-pub survey-spec : {M : Type 1} → statement M
-survey-spec =
+pub survey_spec : {M : Type 1} → statement M
+survey_spec =
     tie.close
     (tie.spec ready-requires name-all-requires list-kinds-requires same_length returns)

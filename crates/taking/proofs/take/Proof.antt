@@ -9,8 +9,8 @@ use lib.ListN.{length}
 use Rattle.memory.specs.Regions.{cell}
 use Rattle.bits.proofs.Tables.{row_room}
 use Rattle.taking.specs.Taking.{fresh}
-use Rattle.taking.proofs.Fresh.{fresh-true}
-use Rattle.taking.proofs.Taking.{take-skip, take-hit, take-room}
+use Rattle.taking.proofs.Fresh.{fresh_true}
+use Rattle.taking.proofs.Taking.{take_skip, take_hit, take_room}
 use Rattle.taking.proofs.take.Statement.{statement}
 use Rattle.taking.proofs.take.Tie as tie
 
@@ -31,7 +31,7 @@ room : (e : tie.Else1) →
 room e =
     let s = start e.before in
     let a = s.args in
-    take-room (cell a.work.now a.b.tops) a.work.now a.b.first a.j a.k a.tails.now
+    take_room (cell a.work.now a.b.tops) a.work.now a.b.first a.j a.k a.tails.now
     a.heads.now a.at (hit e) s.pre.1.1
 
 returns-2 : tie.Need-returns-2
@@ -39,14 +39,14 @@ returns-2 c =
     let m = c.before.before in
     let e = m.before.before.before.before.before.before.before in
     let a = (start e.before).args in
-    take-hit a.work.now m.set-bit.new.0 a.b a.j a.k a.tails.now a.heads.now a.at (hit e)
+    take_hit a.work.now m.set-bit.new.0 a.b a.j a.k a.tails.now a.heads.now a.at (hit e)
     m.set-bit.ensures
 
 returns : tie.Need-returns
 returns c =
     let f = c.before in
     let a = (start f).args in
-    take-skip a.work.now a.b a.j a.k a.tails.now a.heads.now a.at
+    take_skip a.work.now a.b a.j a.k a.tails.now a.heads.now a.at
     (sym f.is-fresh.ensures ∙ not-true f.is-fresh.result c.if1.true)
 
 is-fresh-requires : tie.Need-is-fresh-requires
@@ -54,7 +54,7 @@ is-fresh-requires c κs =
     let s = c.before.before.before.before in
     let P = s.requires.0 in (
       omega (arith, s.requires.1.0.0, P.small),
-      omega (arith, row_room 8 s.args.b.places s.args.j s.requires.1.0.0, P.tops-behind, P.tops_fit),
+      omega (arith, row_room 8 s.args.b.places s.args.j s.requires.1.0.0, P.tops_behind, P.tops_fit),
     )
 
 same_length : tie.Need-same-length
@@ -64,7 +64,7 @@ sub-bit : tie.Need-overflow-sub-bit
 sub-bit c =
     let e = c.before in
     let a = (start e.before).args in
-    omega (arith, fresh-true a.work.now a.b.first a.j a.k (hit e))
+    omega (arith, fresh_true a.work.now a.b.first a.j a.k (hit e))
 
 add-tails : tie.Need-overflow-add-tails
 add-tails c = search rules
@@ -105,9 +105,9 @@ set-bit-requires c κs =
     omega (
       arith,
       row_room 8 a.b.places a.j s.pre.1.0.0,
-      P.tops-behind,
+      P.tops_behind,
       P.tops_fit,
-      fresh-true a.work.now a.b.first a.j a.k (hit e),
+      fresh_true a.work.now a.b.first a.j a.k (hit e),
     )
 
 add-result : tie.Need-overflow-add-result

@@ -4,7 +4,7 @@ use mathlib.Core.Path.{◌≡◌, sym, subst}
 use mathlib.Core.List.{List}
 use Rattle.rules.specs.declared.PlanAnswer.{PlanAnswer}
 use Rattle.buffer.specs.Put.{Written}
-use Rattle.text.specs.Texts.{Putable, answer-lines}
+use Rattle.text.specs.Texts.{Putable, answer_lines}
 use borrow.Author.Rules.{rules}
 use Rattle.text.proofs.put_answer.Statement.{statement}
 use Rattle.text.proofs.put_answer.Tie as tie
@@ -23,14 +23,14 @@ asked c e =
 -- what is put for a case of the answer is put for the answer
 case : (c : tie.Start) {a : PlanAnswer} {r : ℕ} {after : List ℕ} → c.args.answer ≡ a →
     let g = c.args in
-    Written g.out.now 0 (answer-lines g.zones g.arcs a g.from.now g.to.now g.why.now) r after
+    Written g.out.now 0 (answer_lines g.zones g.arcs a g.from.now g.to.now g.why.now) r after
     → Written g.out.now 0
-    (answer-lines g.zones g.arcs g.answer g.from.now g.to.now g.why.now) r after
+    (answer_lines g.zones g.arcs g.answer g.from.now g.to.now g.why.now) r after
 case c {r} {after} e w =
     let g = c.args in
     subst
     (λ (x : PlanAnswer).
-    Written g.out.now 0 (answer-lines g.zones g.arcs x g.from.now g.to.now g.why.now) r after)
+    Written g.out.now 0 (answer_lines g.zones g.arcs x g.from.now g.to.now g.why.now) r after)
     (sym e) w
 
 enum-known-answer : tie.Need-enum-known-answer
@@ -57,7 +57,7 @@ say-plan-requires : tie.Need-say-plan-requires
 say-plan-requires c κs =
     let m = c.before.before in
     let f = asked (entry m.before.before) m.answer2.given.1 in
-    ((f.starts_fit, (f.ends-fit, f.whys-fit)), f.lines_fit)
+    ((f.starts_fit, (f.ends_fit, f.whys_fit)), f.lines_fit)
 
 same-length-2 : tie.Need-same-length-2
 same-length-2 c = search rules
@@ -68,8 +68,8 @@ returns-2 c =
     let m = r.before.before.before in
     case (entry m.before.before) m.answer2.given.1 r.say-plan.ensures
 
-pub put-answer-spec : {M : Type 1} → statement M
-put-answer-spec =
+pub put_answer_spec : {M : Type 1} → statement M
+put_answer_spec =
     tie.close
     (tie.spec
     enum-known-answer

@@ -1,9 +1,9 @@
 -- Demand 1, of the calls: a refusal changes nothing in memory that the caller lent.
---   X-unchanged           a call that refuses leaves every lent list as it came, and work memory as `work-after` says
---   work-after i r w      lent work memory w after the refusal r
---   refusal-spares-work   it is as it came, whatever the refusal
+--   X_unchanged           a call that refuses leaves every lent list as it came, and work memory as `work_after` says
+--   work_after i r w      lent work memory w after the refusal r
+--   refusal_spares_work   it is as it came, whatever the refusal
 -- Each list is what `leaves` says of the trouble, and the answer tells the trouble. A refusal that leaves work memory
--- zeroed changes `refusal-spares-work` and nothing else here. Assumes nothing.
+-- zeroed changes `refusal_spares_work` and nothing else here. Assumes nothing.
 use Prim.Native.Nat.{ℕ}
 use mathlib.Core.Path.{◌≡◌, refl}
 use mathlib.Core.List.{List}
@@ -15,63 +15,63 @@ use Rattle.rules.specs.declared.StrongAnswer.{StrongAnswer}
 use Rattle.rules.specs.declared.ReachAnswer.{ReachAnswer}
 use Rattle.rules.specs.declared.SkeletonAnswer.{SkeletonAnswer}
 use Rattle.rules.specs.declared.PlanAnswer.{PlanAnswer}
-use Rattle.rules.specs.Calls.{leaves-work}
-use Rattle.theory.proofs.Demands.Calls.{Handed-in, arc-lists-are, link-lists-are, Read-call, Write-call}
-use Rattle.theory.proofs.Demands.Calls.{Strong-call, Reach-call, Skeleton-call, Plan-call, Records-call}
-use Rattle.theory.proofs.Demands.Answers.{read-refused-when, write-refused-when, strong-refused-when}
-use Rattle.theory.proofs.Demands.Answers.{reach-refused-when, skeleton-refused-when, plan-refused-when}
-use Rattle.theory.proofs.Demands.Answers.{records-refused-when}
+use Rattle.rules.specs.Calls.{leaves_work}
+use Rattle.theory.proofs.Demands.Calls.{HandedIn, arc_lists_are, link_lists_are, ReadCall, WriteCall}
+use Rattle.theory.proofs.Demands.Calls.{StrongCall, ReachCall, SkeletonCall, PlanCall, RecordsCall}
+use Rattle.theory.proofs.Demands.Answers.{read_refused_when, write_refused_when, strong_refused_when}
+use Rattle.theory.proofs.Demands.Answers.{reach_refused_when, skeleton_refused_when, plan_refused_when}
+use Rattle.theory.proofs.Demands.Answers.{records_refused_when}
 
 -- READ refuses: neither list is changed
-pub read-unchanged : {file : List ℕ} (c : Read-call file) {r : Trouble} → c.answer ≡ ReadAnswer.Refused r
+pub read_unchanged : {file : List ℕ} (c : ReadCall file) {r : Trouble} → c.answer ≡ ReadAnswer.Refused r
     → c.left ≡ c.lent
-read-unchanged c p =
-    let e = (read-refused-when c).0 p in
-    arc-lists-are (rw e at c.promise.tails) (rw e at c.promise.heads)
+read_unchanged c p =
+    let e = (read_refused_when c).0 p in
+    arc_lists_are (rw e at c.promise.tails) (rw e at c.promise.heads)
 
-module _ (i : Handed-in) where
+module _ (i : HandedIn) where
   -- lent work memory after a refusal
-  abbrev pub work-after : Trouble → List ℕ → List ℕ
-  work-after r w = leaves-work i.zones i.tails i.heads w (some r)
+  abbrev pub work_after : Trouble → List ℕ → List ℕ
+  work_after r w = leaves_work i.zones i.tails i.heads w (some r)
 
   -- it is as it came, whatever the refusal: no refusal leaves it zeroed
-  pub refusal-spares-work : (r : Trouble) (w : List ℕ) → work-after r w ≡ w
-  refusal-spares-work r w = refl
+  pub refusal_spares_work : (r : Trouble) (w : List ℕ) → work_after r w ≡ w
+  refusal_spares_work r w = refl
 
-module _ {i : Handed-in} where
+module _ {i : HandedIn} where
   -- WRITE refuses: the bytes are as they came
-  pub write-unchanged : (c : Write-call i) {r : Trouble} → c.answer ≡ WriteAnswer.Refused r → c.left ≡ c.lent
-  write-unchanged c p = rw ((write-refused-when c).0 p) at c.promise.bytes
+  pub write_unchanged : (c : WriteCall i) {r : Trouble} → c.answer ≡ WriteAnswer.Refused r → c.left ≡ c.lent
+  write_unchanged c p = rw ((write_refused_when c).0 p) at c.promise.bytes
 
   -- STRONG refuses
-  pub strong-unchanged : (c : Strong-call i) {r : Trouble} → c.answer ≡ StrongAnswer.Refused r
-      → c.work' ≡ work-after i r c.work
-  strong-unchanged c p = rw ((strong-refused-when c).0 p) at c.promise.work
+  pub strong_unchanged : (c : StrongCall i) {r : Trouble} → c.answer ≡ StrongAnswer.Refused r
+      → c.work' ≡ work_after i r c.work
+  strong_unchanged c p = rw ((strong_refused_when c).0 p) at c.promise.work
 
   -- REACH refuses
-  pub reach-unchanged : {x y : ℕ} (c : Reach-call i x y) {r : Trouble} → c.answer ≡ ReachAnswer.Refused r
-      → c.work' ≡ work-after i r c.work
-  reach-unchanged c p = rw ((reach-refused-when c).0 p) at c.promise.work
+  pub reach_unchanged : {x y : ℕ} (c : ReachCall i x y) {r : Trouble} → c.answer ≡ ReachAnswer.Refused r
+      → c.work' ≡ work_after i r c.work
+  reach_unchanged c p = rw ((reach_refused_when c).0 p) at c.promise.work
 
   -- SKELETON refuses
-  pub skeleton-unchanged : (c : Skeleton-call i) {r : Trouble} → c.answer ≡ SkeletonAnswer.Refused r
-      → (c.left ≡ c.lent) × (c.work' ≡ work-after i r c.work)
-  skeleton-unchanged c p =
-      let e = (skeleton-refused-when c).0 p in
-      (arc-lists-are (rw e at c.promise.tails) (rw e at c.promise.heads), rw e at c.promise.work)
+  pub skeleton_unchanged : (c : SkeletonCall i) {r : Trouble} → c.answer ≡ SkeletonAnswer.Refused r
+      → (c.left ≡ c.lent) × (c.work' ≡ work_after i r c.work)
+  skeleton_unchanged c p =
+      let e = (skeleton_refused_when c).0 p in
+      (arc_lists_are (rw e at c.promise.tails) (rw e at c.promise.heads), rw e at c.promise.work)
 
   -- PLAN refuses
-  pub plan-unchanged : (c : Plan-call i) {r : Trouble} → c.answer ≡ PlanAnswer.Refused r
-      → (c.left ≡ c.lent) × (c.work' ≡ work-after i r c.work)
-  plan-unchanged c p =
-      let e = (plan-refused-when c).0 p in (
-        link-lists-are (rw e at c.promise.from-left) (rw e at c.promise.to-left)
-            (rw e at c.promise.why-left),
-        rw e at c.promise.work-left,
+  pub plan_unchanged : (c : PlanCall i) {r : Trouble} → c.answer ≡ PlanAnswer.Refused r
+      → (c.left ≡ c.lent) × (c.work' ≡ work_after i r c.work)
+  plan_unchanged c p =
+      let e = (plan_refused_when c).0 p in (
+        link_lists_are (rw e at c.promise.from_left) (rw e at c.promise.to_left)
+            (rw e at c.promise.why_left),
+        rw e at c.promise.work_left,
       )
 
   -- PLAN over records refuses
-  pub records-unchanged : (c : Records-call i) {r : Trouble} → c.answer ≡ PlanAnswer.Refused r
-      → (c.left ≡ c.lent) × (c.work' ≡ work-after i r c.work)
-  records-unchanged c p =
-      let e = (records-refused-when c).0 p in (rw e at c.promise.links-left, rw e at c.promise.work-left)
+  pub records_unchanged : (c : RecordsCall i) {r : Trouble} → c.answer ≡ PlanAnswer.Refused r
+      → (c.left ≡ c.lent) × (c.work' ≡ work_after i r c.work)
+  records_unchanged c p =
+      let e = (records_refused_when c).0 p in (rw e at c.promise.links_left, rw e at c.promise.work_left)

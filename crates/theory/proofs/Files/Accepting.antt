@@ -1,15 +1,15 @@
 -- A network that is handed in passes its tests exactly where its lists pair up, it is one that a call accepts, and its
 -- withdrawn numbers ascend, are some of its numbers and not all, and are at no arc.
---   arcs-most-lists                  the length of an accepted network's two lists
---   acceptable-proper                an accepted network is proper
+--   arcs_most_lists                  the length of an accepted network's two lists
+--   acceptable_proper                an accepted network is proper
 --   Fine n ts hs                     the lists pair up, and the network is accepted
---   fine-few, fine-proper            it has at most 4,096 tails, and is proper
---   Fine-with n ts hs gone           so it is, with its withdrawn numbers: a network that passes its tests
---   fine-with, fine-with-tests       it is so where the tests find no trouble;   and back
---   fine-with-bridge, fine-with-proper   the bridge to the network of the zones that remain, which is proper
---   fine-none, handed-none           with no number withdrawn a network that is accepted passes its tests, and is the
+--   fine_few, fine_proper            it has at most 4,096 tails, and is proper
+--   FineWith n ts hs gone           so it is, with its withdrawn numbers: a network that passes its tests
+--   fine_with, fine_with_tests       it is so where the tests find no trouble;   and back
+--   fine_with_bridge, fine_with_proper   the bridge to the network of the zones that remain, which is proper
+--   fine_none, handed_none           with no number withdrawn a network that is accepted passes its tests, and is the
 --                                    network of all numbers
---   question-remain, remain-question a question passes its tests exactly where it is about two zones that remain
+--   question_remain, remain_question a question passes its tests exactly where it is about two zones that remain
 -- A test that does not fail is one bound of an accepted network; the arcs go one after the other. Assumes nothing.
 use Prim.Native.Nat.{ℕ, zero, suc, ◌≤◌, ◌<◌}
 use native.Mathlib.Omega.{arith}
@@ -24,17 +24,17 @@ use lib.ListN.{length}
 use borrow.Author.Tests.{leb-false, ltb-false, eqb-true, eqb-false, not-false, le-ltb, lt-leb, eq-eqb, ne_eqb}
 use Rattle.rules.specs.Lists.{span, every, listed}
 use Rattle.rules.specs.Network.{Arc, Proper, Ascending, remaining}
-use Rattle.rules.specs.File.{Acceptable, zones-bad, arcs-bad}
-use Rattle.rules.specs.Calls.{first-trouble, arcs-of, given, handed, handed-with, list-tests, arc-tests, arcs-tests}
-use Rattle.rules.specs.Calls.{network-tests, question-tests}
-use Rattle.theory.proofs.Ground.Bools.{or-false}
-use Rattle.theory.proofs.Ground.ArcLists.{arcs-length}
-use Rattle.theory.proofs.Ground.Ascending.{network-proper}
-use Rattle.theory.proofs.Withdrawn.Remaining.{stays, remaining-in, in-remaining, network-none, Free, Bridge}
+use Rattle.rules.specs.File.{Acceptable, zones_bad, arcs_bad}
+use Rattle.rules.specs.Calls.{first_trouble, arcs_of, given, handed, handed_with, list_tests, arc_tests, arcs_tests}
+use Rattle.rules.specs.Calls.{network_tests, question_tests}
+use Rattle.theory.proofs.Ground.Bools.{or_false}
+use Rattle.theory.proofs.Ground.ArcLists.{arcs_length}
+use Rattle.theory.proofs.Ground.Ascending.{network_proper}
+use Rattle.theory.proofs.Withdrawn.Remaining.{stays, remaining_in, in_remaining, network_none, Free, Bridge}
 use Rattle.theory.proofs.Withdrawn.Remaining.{bridge}
-use Rattle.theory.proofs.Files.Troubles.{passes, pass, both-pass, first-trouble-after}
-use Rattle.theory.proofs.Files.Listing.{list-rises, rises-list, rising-ascending, rising-below}
-use Rattle.theory.proofs.Files.Listing.{ascending-rising, some-remains, remains-some}
+use Rattle.theory.proofs.Files.Troubles.{passes, pass, both_pass, first_trouble_after}
+use Rattle.theory.proofs.Files.Listing.{list_rises, rises_list, rising_ascending, rising_below}
+use Rattle.theory.proofs.Files.Listing.{ascending_rising, some_remains, remains_some}
 
 -- an arc that joins two distinct zones of n that are not gone
 pub record Joins (n : ℕ) (e : Arc) (gone : ℕ → Bool) : Type 0 where
@@ -44,11 +44,11 @@ pub record Joins (n : ℕ) (e : Arc) (gone : ℕ → Bool) : Type 0 where
   pub stay : (gone e.tail || gone e.head) ≡ false
 
 -- arcs without a trouble join two such zones each
-arcs-join : (n i : ℕ) (es : List Arc) (gone : ℕ → Bool) → first-trouble (arcs-tests n i es gone) ≡ none
+arcs_join : (n i : ℕ) (es : List Arc) (gone : ℕ → Bool) → first_trouble (arcs_tests n i es gone) ≡ none
     → (x : Arc) → In x es → Joins n x gone
-arcs-join n i [] gone e x m = absurd (Memᴰ.not-nil m)
-arcs-join n i (a ∷ es) gone e x m =
-    let p = both-pass (arc-tests n i a gone) (arcs-tests n (suc i) es gone) e in
+arcs_join n i [] gone e x m = absurd (Memᴰ.not-nil m)
+arcs_join n i (a ∷ es) gone e x m =
+    let p = both_pass (arc_tests n i a gone) (arcs_tests n (suc i) es gone) e in
     let q = passes (leb n a.tail) _ _ p.0 in
     let r = passes (leb n a.head) _ _ q.1 in
     let s = passes (eqb a.tail a.head) _ _ r.1 in
@@ -59,30 +59,30 @@ arcs-join n i (a ∷ es) gone e x m =
       apart = eqb-false a.tail a.head s.0;
       stay = t.0;
     } in
-    ⊎_elim (λ (o : x ≡ a). rw o j) (λ o. arcs-join n (suc i) es gone p.1 x o) (Memᴰ.cases_cons m)
+    ⊎_elim (λ (o : x ≡ a). rw o j) (λ o. arcs_join n (suc i) es gone p.1 x o) (Memᴰ.cases_cons m)
 
 -- arcs that join two such zones each have no trouble
-join-arcs : (n i : ℕ) (es : List Arc) (gone : ℕ → Bool) → ((x : Arc) → In x es → Joins n x gone)
-    → first-trouble (arcs-tests n i es gone) ≡ none
-join-arcs n i [] gone j = refl
-join-arcs n i (e ∷ es) gone j =
+join_arcs : (n i : ℕ) (es : List Arc) (gone : ℕ → Bool) → ((x : Arc) → In x es → Joins n x gone)
+    → first_trouble (arcs_tests n i es gone) ≡ none
+join_arcs n i [] gone j = refl
+join_arcs n i (e ∷ es) gone j =
     let f = j e (In.head refl) in
     pass _ _ (lt-leb n e.tail f.tail)
     (pass _ _ (lt-leb n e.head f.head)
     (pass _ _ (ne_eqb e.tail e.head f.apart)
     (pass _ _ f.stay
-    (join-arcs n (suc i) es gone (λ x m. j x (In.tail m))))))
+    (join_arcs n (suc i) es gone (λ x m. j x (In.tail m))))))
 
 module _ (n : ℕ) (ts hs : List ℕ) where
   module _ (paired : length ts ≡ length hs) (A : Acceptable (given n ts hs)) where
     -- the length of the lists
-    pub arcs-most-lists : length ts ≤ 4096
-    arcs-most-lists = rw (arcs-length ts hs paired) at A.arcs-most
+    pub arcs_most_lists : length ts ≤ 4096
+    arcs_most_lists = rw (arcs_length ts hs paired) at A.arcs_most
 
   -- an accepted network is proper
-  pub acceptable-proper : Acceptable (given n ts hs) → Proper (handed n ts hs)
+  pub acceptable_proper : Acceptable (given n ts hs) → Proper (handed n ts hs)
   unfolding handed
-  acceptable-proper A = network-proper n (arcs-of ts hs) (λ a b m. (A.tails m, A.heads m))
+  acceptable_proper A = network_proper n (arcs_of ts hs) (λ a b m. (A.tails m, A.heads m))
 
 -- tail list and head list pair up, and what they hand in is a network that a call accepts
 pub record Fine (n : ℕ) (ts hs : List ℕ) : Type 0 where
@@ -90,57 +90,57 @@ pub record Fine (n : ℕ) (ts hs : List ℕ) : Type 0 where
   pub accepted : Acceptable (given n ts hs)
 
 -- it has at most 4,096 tails
-pub fine-few : {n : ℕ} {ts hs : List ℕ} → Fine n ts hs → length ts ≤ 4096
-fine-few {n} {ts} {hs} f = arcs-most-lists n ts hs f.paired f.accepted
+pub fine_few : {n : ℕ} {ts hs : List ℕ} → Fine n ts hs → length ts ≤ 4096
+fine_few {n} {ts} {hs} f = arcs_most_lists n ts hs f.paired f.accepted
 
 -- it is proper
-pub fine-proper : (n : ℕ) (ts hs : List ℕ) → Fine n ts hs → Proper (handed n ts hs)
-fine-proper n ts hs f = acceptable-proper n ts hs f.accepted
+pub fine_proper : (n : ℕ) (ts hs : List ℕ) → Fine n ts hs → Proper (handed n ts hs)
+fine_proper n ts hs f = acceptable_proper n ts hs f.accepted
 
 -- so it is, its withdrawn numbers ascend below the zone count, some zone remains, and no arc has a withdrawn end
-pub record Fine-with (n : ℕ) (ts hs gone : List ℕ) : Type 0 where
+pub record FineWith (n : ℕ) (ts hs gone : List ℕ) : Type 0 where
   pub fine : Fine n ts hs
   pub ascending : Ascending gone
   pub below : (z : ℕ) → In z gone → z < n
   pub remains : (z : ℕ) × In z (remaining n gone)
-  pub free : Free (arcs-of ts hs) gone
+  pub free : Free (arcs_of ts hs) gone
 
 module _ (n : ℕ) (ts hs gone : List ℕ) where
   -- a network that is handed in and has no trouble
-  pub fine-with : first-trouble (network-tests n ts hs gone) ≡ none → Fine-with n ts hs gone
-  unfolding arcs-of
-  fine-with e =
+  pub fine_with : first_trouble (network_tests n ts hs gone) ≡ none → FineWith n ts hs gone
+  unfolding arcs_of
+  fine_with e =
       let p = passes (not (eqb (length ts) (length hs))) _ _ e in
-      let q = passes (zones-bad n) _ _ p.1 in
-      let r = passes (arcs-bad (length ts)) _ _ q.1 in
-      let l = both-pass (list-tests n 0 0 gone) _ r.1 in
+      let q = passes (zones_bad n) _ _ p.1 in
+      let r = passes (arcs_bad (length ts)) _ _ q.1 in
+      let l = both_pass (list_tests n 0 0 gone) _ r.1 in
       let k = passes (every (listed gone) (span 0 n)) _ _ l.1 in
-      let z = or-false (eqb n 0) (ltb 1024 n) q.0 in
-      let rises = list-rises n 0 0 gone l.0 in
-      let j = arcs-join n 0 (arcs-of ts hs) (listed gone) k.1 in
+      let z = or_false (eqb n 0) (ltb 1024 n) q.0 in
+      let rises = list_rises n 0 0 gone l.0 in
+      let j = arcs_join n 0 (arcs_of ts hs) (listed gone) k.1 in
       let paired : length ts ≡ length hs = eqb-true _ _ (not-false _ p.0) in
-      let some-zone = eqb-false n 0 z.0 in
+      let some_zone = eqb-false n 0 z.0 in
       record {
         fine =
             record {
               paired = paired;
               accepted =
                   record {
-                    zones-least = positive n some-zone;
-                    zones-most = ltb-false 1024 n z.1;
-                    arcs-most = rw (arcs-length ts hs paired) (ltb-false 4096 (length ts) r.0);
+                    zones_least = positive n some_zone;
+                    zones_most = ltb-false 1024 n z.1;
+                    arcs_most = rw (arcs_length ts hs paired) (ltb-false 4096 (length ts) r.0);
                     tails = λ m. (j _ m).tail;
                     heads = λ m. (j _ m).head;
                     apart = λ m. (j _ m).apart;
                   };
             };
-        ascending = rising-ascending n 0 gone rises;
-        below = λ x m. rising-below n 0 gone rises m;
-        remains = some-remains n gone k.0;
+        ascending = rising_ascending n 0 gone rises;
+        below = λ x m. rising_below n 0 gone rises m;
+        remains = some_remains n gone k.0;
         free =
             record {
-              tails = λ {a} {b} m. (or-false (listed gone a) (listed gone b) (j _ m).stay).0;
-              heads = λ {a} {b} m. (or-false (listed gone a) (listed gone b) (j _ m).stay).1;
+              tails = λ {a} {b} m. (or_false (listed gone a) (listed gone b) (j _ m).stay).0;
+              heads = λ {a} {b} m. (or_false (listed gone a) (listed gone b) (j _ m).stay).1;
             };
       }
     where
@@ -148,16 +148,16 @@ module _ (n : ℕ) (ts hs gone : List ℕ) where
       positive zero f = absurd (f refl)
       positive (suc k) f = omega arith
 
-  module _ (F : Fine-with n ts hs gone) where
+  module _ (F : FineWith n ts hs gone) where
     -- what is accepted passes the tests
-    pub fine-with-tests : first-trouble (network-tests n ts hs gone) ≡ none
-    unfolding arcs-of
-    fine-with-tests =
+    pub fine_with_tests : first_trouble (network_tests n ts hs gone) ≡ none
+    unfolding arcs_of
+    fine_with_tests =
         let A = F.fine.accepted in
         let paired = F.fine.paired in
-        let some-zone : n ≡ 0 → ⊥ = λ e. omega (arith, A.zones-least) in
-        let zones : zones-bad n ≡ false = rw (ne_eqb n 0 some-zone, le-ltb 1024 n A.zones-most) in
-        let j : (x : Arc) → In x (arcs-of ts hs) → Joins n x (listed gone) = λ x m. record {
+        let some_zone : n ≡ 0 → ⊥ = λ e. omega (arith, A.zones_least) in
+        let zones : zones_bad n ≡ false = rw (ne_eqb n 0 some_zone, le-ltb 1024 n A.zones_most) in
+        let j : (x : Arc) → In x (arcs_of ts hs) → Joins n x (listed gone) = λ x m. record {
           tail = A.tails m;
           head = A.heads m;
           apart = A.apart m;
@@ -165,50 +165,50 @@ module _ (n : ℕ) (ts hs gone : List ℕ) where
         } in
         pass _ _ (ap not (eq-eqb (length ts) (length hs) paired))
         (pass _ _ zones
-        (pass _ _ (le-ltb 4096 (length ts) (fine-few F.fine))
-        (first-trouble-after (list-tests n 0 0 gone) _
-        (rises-list n 0 0 gone (ascending-rising n gone F.ascending F.below))
-        ∙ pass _ _ (remains-some n gone F.remains.1) (join-arcs n 0 (arcs-of ts hs) (listed gone) j))))
+        (pass _ _ (le-ltb 4096 (length ts) (fine_few F.fine))
+        (first_trouble_after (list_tests n 0 0 gone) _
+        (rises_list n 0 0 gone (ascending_rising n gone F.ascending F.below))
+        ∙ pass _ _ (remains_some n gone F.remains.1) (join_arcs n 0 (arcs_of ts hs) (listed gone) j))))
 
     -- the bridge to the network of the zones that remain
-    pub fine-with-bridge : Bridge (stays gone) (handed n ts hs) (handed-with n ts hs gone)
-    unfolding handed handed-with
-    fine-with-bridge = bridge n (fine-proper n ts hs F.fine) F.free
+    pub fine_with_bridge : Bridge (stays gone) (handed n ts hs) (handed_with n ts hs gone)
+    unfolding handed handed_with
+    fine_with_bridge = bridge n (fine_proper n ts hs F.fine) F.free
 
     -- which is proper
-    pub fine-with-proper : Proper (handed-with n ts hs gone)
-    fine-with-proper = fine-with-bridge.proper
+    pub fine_with_proper : Proper (handed_with n ts hs gone)
+    fine_with_proper = fine_with_bridge.proper
 
 -- with no number withdrawn, all zones remain
-pub fine-none : (n : ℕ) (ts hs : List ℕ) → Fine n ts hs → Fine-with n ts hs []
-fine-none n ts hs f =
+pub fine_none : (n : ℕ) (ts hs : List ℕ) → Fine n ts hs → FineWith n ts hs []
+fine_none n ts hs f =
     record {
       fine = f;
       ascending = tt;
       below = λ z m. absurd (Memᴰ.not-nil m);
-      remains = (0, in-remaining n [] (omega (arith, f.accepted.zones-least)) refl);
+      remains = (0, in_remaining n [] (omega (arith, f.accepted.zones_least)) refl);
       free = record { tails = λ m. refl; heads = λ m. refl };
     }
 
 -- and the network is that of all numbers
-pub handed-none : (n : ℕ) (ts hs : List ℕ) → handed-with n ts hs [] ≡ handed n ts hs
-unfolding handed handed-with
-handed-none n ts hs = network-none n (arcs-of ts hs)
+pub handed_none : (n : ℕ) (ts hs : List ℕ) → handed_with n ts hs [] ≡ handed n ts hs
+unfolding handed handed_with
+handed_none n ts hs = network_none n (arcs_of ts hs)
 
 -- a question without a trouble is about two zones that remain
-pub question-remain : (n m : ℕ) (gone : List ℕ) (a b : ℕ)
-    → first-trouble (question-tests n m (listed gone) a b) ≡ none → In a (remaining n gone) × In b (remaining n gone)
-question-remain n m gone a b e =
+pub question_remain : (n m : ℕ) (gone : List ℕ) (a b : ℕ)
+    → first_trouble (question_tests n m (listed gone) a b) ≡ none → In a (remaining n gone) × In b (remaining n gone)
+question_remain n m gone a b e =
     let p = passes (leb n a) _ _ e in
     let q = passes (leb n b) _ _ p.1 in
-    let r = or-false (listed gone a) (listed gone b) (passes (listed gone a || listed gone b) _ _ q.1).0 in
-    (in-remaining n gone (leb-false n a p.0) r.0, in-remaining n gone (leb-false n b q.0) r.1)
+    let r = or_false (listed gone a) (listed gone b) (passes (listed gone a || listed gone b) _ _ q.1).0 in
+    (in_remaining n gone (leb-false n a p.0) r.0, in_remaining n gone (leb-false n b q.0) r.1)
 
 -- and back
-pub remain-question : (n m : ℕ) (gone : List ℕ) {a b : ℕ} → In a (remaining n gone) → In b (remaining n gone)
-    → first-trouble (question-tests n m (listed gone) a b) ≡ none
-remain-question n m gone {a} {b} i j =
-    let p = remaining-in n gone i in
-    let q = remaining-in n gone j in
+pub remain_question : (n m : ℕ) (gone : List ℕ) {a b : ℕ} → In a (remaining n gone) → In b (remaining n gone)
+    → first_trouble (question_tests n m (listed gone) a b) ≡ none
+remain_question n m gone {a} {b} i j =
+    let p = remaining_in n gone i in
+    let q = remaining_in n gone j in
     pass _ _ (lt-leb n a p.0)
     (pass _ _ (lt-leb n b q.0) (pass (listed gone a || listed gone b) _ (rw (p.1, q.1)) refl))

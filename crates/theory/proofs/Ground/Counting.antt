@@ -1,8 +1,8 @@
 -- Counting: how long lists are that answer for one another.
 --   Distinct xs     no element stands twice in xs
---   answers-count   a list without repeats whose every element some element of ys answers for is no longer than ys
---   fewer-keep      where p implies q, and somewhere q holds and p does not, fewer pass p than q
--- The idea of `answers-count`: take the answer of the first element out of ys; whatever answers for another element is
+--   answers_count   a list without repeats whose every element some element of ys answers for is no longer than ys
+--   fewer_keep      where p implies q, and somewhere q holds and p does not, fewer pass p than q
+-- The idea of `answers_count`: take the answer of the first element out of ys; whatever answers for another element is
 -- still there, since the two elements differ. Assumes nothing.
 use Prim.Native.Nat.{ℕ, zero, suc, ◌<◌, ◌≤◌}
 use mathlib.Core.Path.{◌≡◌, refl, sym, ap, ◌∙◌}
@@ -21,7 +21,7 @@ use native.Mathlib.Omega.{arith}
 use lib.ListN.{length, drop}
 use Rattle.rules.specs.Lists.{keep}
 use Rattle.rules.specs.Network.{Above, Ascending}
-use Rattle.theory.proofs.Ground.Lists.{keep-in}
+use Rattle.theory.proofs.Ground.Lists.{keep_in}
 
 -- no element stands twice in the list
 abbrev pub Distinct : {A : Type 0} → List A → Type 0
@@ -48,13 +48,13 @@ module _ {A : Type 0} where
       still z rest below (inr n) = found z rest (below n)
 
 -- a list without repeats whose every element is f of some element of ys is no longer than ys
-pub answers-count : {A B : Type 0} (f : B → A) (xs : List A) (ys : List B)
+pub answers_count : {A B : Type 0} (f : B → A) (xs : List A) (ys : List B)
     → Distinct xs
     → ((x : A) → In x xs → (y : B) × In y ys × (f y ≡ x))
     → length xs ≤ length ys
-answers-count f [] ys d h = omega arith
-answers-count {A} {B} f (x ∷ xs) ys d h =
-    let short : length xs ≤ length out.0 = answers-count f xs out.0 d.1 left in
+answers_count f [] ys d h = omega arith
+answers_count {A} {B} f (x ∷ xs) ys d h =
+    let short : length xs ≤ length out.0 = answers_count f xs out.0 d.1 left in
     omega (arith, out.1)
   where
     mine : (y : B) × In y ys × (f y ≡ x)
@@ -79,30 +79,30 @@ module _ {A : Type 0} where
   kept b x ys = elim b [ true ↦ x ∷ ys | false ↦ ys ]
 
   -- no more elements pass a test than there are
-  pub keep-length : (p : A → Bool) (xs : List A) → length (keep p xs) ≤ length xs
-  keep-length p [] = omega arith
-  keep-length p (x ∷ xs) = go (p x) (keep-length p xs)
+  pub keep_length : (p : A → Bool) (xs : List A) → length (keep p xs) ≤ length xs
+  keep_length p [] = omega arith
+  keep_length p (x ∷ xs) = go (p x) (keep_length p xs)
     where
       go : (b : Bool) → length (keep p xs) ≤ length xs → length (kept b x (keep p xs)) ≤ suc (length xs)
       go true h = omega arith
       go false h = omega arith
 
   -- what a test keeps of a list without repeats is without repeats
-  pub keep-distinct : (p : A → Bool) (xs : List A) → Distinct xs → Distinct (keep p xs)
-  keep-distinct p [] d = tt
-  keep-distinct p (x ∷ xs) d = go (p x) (keep-distinct p xs d.1)
+  pub keep_distinct : (p : A → Bool) (xs : List A) → Distinct xs → Distinct (keep p xs)
+  keep_distinct p [] d = tt
+  keep_distinct p (x ∷ xs) d = go (p x) (keep_distinct p xs d.1)
     where
       go : (b : Bool) → Distinct (keep p xs) → Distinct (kept b x (keep p xs))
-      go true h = (λ m. d.0 (keep-in p xs m).0, h)
+      go true h = (λ m. d.0 (keep_in p xs m).0, h)
       go false h = h
 
   -- where p implies q, no more pass p than q
-  pub keep-no-more : (p q : A → Bool) (xs : List A)
+  pub keep_no_more : (p q : A → Bool) (xs : List A)
       → ((x : A) → In x xs → p x ≡ true → q x ≡ true)
       → length (keep p xs) ≤ length (keep q xs)
-  keep-no-more p q [] imp = omega arith
-  keep-no-more p q (x ∷ xs) imp =
-      go (p x) (q x) (imp x (In.head refl)) (keep-no-more p q xs (λ y m. imp y (In.tail m)))
+  keep_no_more p q [] imp = omega arith
+  keep_no_more p q (x ∷ xs) imp =
+      go (p x) (q x) (imp x (In.head refl)) (keep_no_more p q xs (λ y m. imp y (In.tail m)))
     where
       go : (b c : Bool) → (b ≡ true → c ≡ true) → length (keep p xs) ≤ length (keep q xs)
           → length (kept b x (keep p xs)) ≤ length (kept c x (keep q xs))
@@ -112,14 +112,14 @@ module _ {A : Type 0} where
       go false false f h = h
 
   -- where p implies q, and somewhere q holds and p does not, fewer pass p than q
-  pub fewer-keep : (p q : A → Bool) (xs : List A)
+  pub fewer_keep : (p q : A → Bool) (xs : List A)
       → ((x : A) → In x xs → p x ≡ true → q x ≡ true)
       → {y : A} → In y xs → p y ≡ false → q y ≡ true → length (keep p xs) < length (keep q xs)
-  fewer-keep p q [] imp m py qy = absurd (Memᴰ.not-nil m)
-  fewer-keep p q (x ∷ xs) imp {y} m py qy =
+  fewer_keep p q [] imp m py qy = absurd (Memᴰ.not-nil m)
+  fewer_keep p q (x ∷ xs) imp {y} m py qy =
       ⊎_elim
-      (λ (e : y ≡ x). here (p x) (q x) (rw (← e) py) (rw (← e) qy) (keep-no-more p q xs rest))
-      (λ (k : In y xs). there (p x) (q x) (imp x (In.head refl)) (fewer-keep p q xs rest k py qy))
+      (λ (e : y ≡ x). here (p x) (q x) (rw (← e) py) (rw (← e) qy) (keep_no_more p q xs rest))
+      (λ (k : In y xs). there (p x) (q x) (imp x (In.head refl)) (fewer_keep p q xs rest k py qy))
       (Memᴰ.cases_cons m)
     where
       rest : (z : A) → In z xs → p z ≡ true → q z ≡ true
@@ -146,11 +146,11 @@ module _ {A : Type 0} where
   )
 
   -- of two lists that are without repeats one after the other, each is, and they have nothing in common
-  pub distinct-split : (xs ys : List A) → Distinct (xs ++ ys)
+  pub distinct_split : (xs ys : List A) → Distinct (xs ++ ys)
       → Distinct xs × Distinct ys × ((x : A) → In x xs → In x ys → ⊥)
-  distinct-split [] ys d = (tt, d, λ x m n. Memᴰ.not-nil m)
-  distinct-split (x ∷ xs) ys d =
-      let r = distinct-split xs ys d.1 in
+  distinct_split [] ys d = (tt, d, λ x m n. Memᴰ.not-nil m)
+  distinct_split (x ∷ xs) ys d =
+      let r = distinct_split xs ys d.1 in
       ((λ m. d.0 (Memᴰ.append_left ys m), r.0), r.1, λ y m n. apart y n (r.2 y) (Memᴰ.cases_cons m))
     where
       apart : (y : A) → In y ys → (In y xs → In y ys → ⊥) → (y ≡ x) ⊎ In y xs → ⊥
@@ -158,41 +158,41 @@ module _ {A : Type 0} where
       apart y n f (inr m) = f m n
 
   -- what is left of a list when its first elements are dropped was in the list
-  pub drop-in : {x : A} (n : ℕ) (xs : List A) → In x (drop n xs) → In x xs
-  drop-in zero xs m = m
-  drop-in (suc n) [] m = m
-  drop-in (suc n) (y ∷ ys) m = In.tail (drop-in n ys m)
+  pub drop_in : {x : A} (n : ℕ) (xs : List A) → In x (drop n xs) → In x xs
+  drop_in zero xs m = m
+  drop_in (suc n) [] m = m
+  drop_in (suc n) (y ∷ ys) m = In.tail (drop_in n ys m)
 
   -- what is left of a list without repeats when its first elements are dropped is without repeats
-  pub distinct-drop : (n : ℕ) (xs : List A) → Distinct xs → Distinct (drop n xs)
-  distinct-drop zero xs d = d
-  distinct-drop (suc n) [] d = tt
-  distinct-drop (suc n) (y ∷ ys) d = distinct-drop n ys d.1
+  pub distinct_drop : (n : ℕ) (xs : List A) → Distinct xs → Distinct (drop n xs)
+  distinct_drop zero xs d = d
+  distinct_drop (suc n) [] d = tt
+  distinct_drop (suc n) (y ∷ ys) d = distinct_drop n ys d.1
 
 -- the images of a list without repeats under a map that is injective on the list are without repeats
-pub distinct-map : {A B : Type 0} (f : A → B) (xs : List A)
+pub distinct_map : {A B : Type 0} (f : A → B) (xs : List A)
     → ((x y : A) → In x xs → In y xs → f x ≡ f y → x ≡ y) → Distinct xs → Distinct (map f xs)
-distinct-map f [] inj d = tt
-distinct-map {A} {B} f (x ∷ xs) inj d = (
+distinct_map f [] inj d = tt
+distinct_map {A} {B} f (x ∷ xs) inj d = (
   λ m. apart (Memᴰ.of_map f xs m),
-  distinct-map f xs (λ y z k l. inj y z (In.tail k) (In.tail l)) d.1,
+  distinct_map f xs (λ y z k l. inj y z (In.tail k) (In.tail l)) d.1,
 )
   where
     apart : (a : A) × In a xs × (f a ≡ f x) → ⊥
     apart r = d.0 (Memᴰ.cast (inj x r.0 (In.head refl) (In.tail r.1) (sym r.2)) r.1)
 
 -- every number of a list that ascends from above a is above a
-pub above-less : {a x : ℕ} (xs : List ℕ) → Above a xs → In x xs → a < x
-above-less [] h m = absurd (Memᴰ.not-nil m)
-above-less {a} {x} (y ∷ ys) h m =
-    ⊎_elim (λ (e : x ≡ y). rw e h.0) (λ k. let l = above-less ys h.1 k in omega arith) (Memᴰ.cases_cons m)
+pub above_less : {a x : ℕ} (xs : List ℕ) → Above a xs → In x xs → a < x
+above_less [] h m = absurd (Memᴰ.not-nil m)
+above_less {a} {x} (y ∷ ys) h m =
+    ⊎_elim (λ (e : x ≡ y). rw e h.0) (λ k. let l = above_less ys h.1 k in omega arith) (Memᴰ.cases_cons m)
 
 -- a list that ascends from above a is without repeats
-above-distinct : (a : ℕ) (xs : List ℕ) → Above a xs → Distinct xs
-above-distinct a [] h = tt
-above-distinct a (x ∷ xs) h = (λ m. let l = above-less xs h.1 m in omega arith, above-distinct x xs h.1)
+above_distinct : (a : ℕ) (xs : List ℕ) → Above a xs → Distinct xs
+above_distinct a [] h = tt
+above_distinct a (x ∷ xs) h = (λ m. let l = above_less xs h.1 m in omega arith, above_distinct x xs h.1)
 
 -- a list that ascends is without repeats
-pub ascending-distinct : (xs : List ℕ) → Ascending xs → Distinct xs
-ascending-distinct [] h = tt
-ascending-distinct (x ∷ xs) h = (λ m. let l = above-less xs h m in omega arith, above-distinct x xs h)
+pub ascending_distinct : (xs : List ℕ) → Ascending xs → Distinct xs
+ascending_distinct [] h = tt
+ascending_distinct (x ∷ xs) h = (λ m. let l = above_less xs h m in omega arith, above_distinct x xs h)

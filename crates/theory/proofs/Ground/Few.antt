@@ -1,6 +1,6 @@
 -- Lists with few elements.
 --   none_in, length_none   a list with no element, or of length 0, is empty
---   only-in   a list without repeats that has one element only is that element
+--   only_in   a list without repeats that has one element only is that element
 --   two_in    a list with two different elements has at least two
 -- By cases on the list. Assumes nothing.
 use Prim.Native.Nat.{◌≤◌}
@@ -23,10 +23,10 @@ module _ {A : Type 0} where
   length_none (x ∷ xs) e = absurd (omega arith)
 
   -- a list without repeats that has one element only is that element
-  pub only-in : {x : A} (xs : List A) → Distinct xs → In x xs → ((y : A) → In y xs → y ≡ x) → xs ≡ x ∷ []
-  only-in [] d m h = absurd (Memᴰ.not-nil m)
-  only-in (y ∷ []) d m h = ap {B = List A} (λ z. z ∷ []) (h y (In.head refl))
-  only-in (y ∷ z ∷ zs) d m h =
+  pub only_in : {x : A} (xs : List A) → Distinct xs → In x xs → ((y : A) → In y xs → y ≡ x) → xs ≡ x ∷ []
+  only_in [] d m h = absurd (Memᴰ.not-nil m)
+  only_in (y ∷ []) d m h = ap {B = List A} (λ z. z ∷ []) (h y (In.head refl))
+  only_in (y ∷ z ∷ zs) d m h =
       absurd (d.0 (In.head (h y (In.head refl) ∙ sym (h z (In.tail (In.head refl))))))
 
   -- a list with two different elements has at least two

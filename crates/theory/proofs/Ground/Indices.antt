@@ -1,5 +1,5 @@
 -- The elements of a list of numbers by their indices.
---   at_in    what stands at an index is an element;   in-at   every element has an index
+--   at_in    what stands at an index is an element;   in_at   every element has an index
 -- By induction on the list, or on the place of an element. Assumes nothing.
 use Prim.Native.Nat.{ℕ, zero, suc, ◌<◌}
 use native.Mathlib.Nat.{not-suc-le-zero}
@@ -21,8 +21,8 @@ pub record Index (x : ℕ) (xs : List ℕ) : Type 0 where
   pub is : get_or xs index 0 ≡ x
 
 -- every element has an index
-pub in-at : {x : ℕ} {xs : List ℕ} → In x xs → Index x xs
-in-at (In.head e) = record { index = 0; inside = omega arith; is = sym e }
-in-at (In.tail m) =
-    let r = in-at m in
+pub in_at : {x : ℕ} {xs : List ℕ} → In x xs → Index x xs
+in_at (In.head e) = record { index = 0; inside = omega arith; is = sym e }
+in_at (In.tail m) =
+    let r = in_at m in
     record { index = suc r.index; inside = omega arith; is = r.is }

@@ -1,8 +1,8 @@
 -- Kinds, pairing and plan depend on the zones and on reach alone, so networks with equal skeletons get the same plan.
---   X-alike            the value X is the same for networks that are alike: left, entered, sources, sinks, alone, plan
---   pairing-agree      tests that agree on the sources and the sinks make the same ordering
---   plan-agree         networks with the same zones and the same reach have the same plan, with the same counts
---   plan-of-skeleton   so have networks with the same zones and the same skeleton
+--   X_alike            the value X is the same for networks that are alike: left, entered, sources, sinks, alone, plan
+--   pairing_agree      tests that agree on the sources and the sinks make the same ordering
+--   plan_agree         networks with the same zones and the same reach have the same plan, with the same counts
+--   plan_of_skeleton   so have networks with the same zones and the same skeleton
 -- An arc leaves c's component exactly when c reaches a zone outside it: that is reach alone. Arcs that come in are
 -- those that leave in the turned network. Assumes nothing.
 use Prim.Native.Nat.{ℕ, ◌+◌, max}
@@ -23,81 +23,81 @@ use Rattle.rules.specs.Plan.{
   Picked,
   pick,
   pairing,
-  with-lone,
+  with_lone,
   with_pair,
   links,
   turned,
-  turned-link,
-  is-upright,
+  turned_link,
+  is_upright,
   upright,
   ordering,
-  upright-plan,
+  upright_plan,
   plan,
-  plan-pairs,
-  plan-need,
+  plan_pairs,
+  plan_need,
 }
-use Rattle.theory.proofs.Ground.Bools.{bool-agree, true-unless}
-use Rattle.theory.proofs.Ground.Lists.{keep-agree}
-use Rattle.theory.proofs.Reaching.Reach.{reach-arc, reach-trans}
-use Rattle.theory.proofs.Reaching.Components.{Together, names-zone}
+use Rattle.theory.proofs.Ground.Bools.{bool_agree, true_unless}
+use Rattle.theory.proofs.Ground.Lists.{keep_agree}
+use Rattle.theory.proofs.Reaching.Reach.{reach_arc, reach_trans}
+use Rattle.theory.proofs.Reaching.Components.{Together, names_zone}
 use Rattle.theory.proofs.Reaching.Turned.{turned_left}
-use Rattle.theory.proofs.Reaching.KindLaws.{Out, left-true, left-closed, source_is, sink-is}
-use Rattle.theory.proofs.Skeletons.Alike.{Alike, in-along, alike-sym, alike_turned, reaches-alike}
-use Rattle.theory.proofs.Skeletons.Alike.{strong-alike, names-alike}
-use Rattle.theory.proofs.Skeletons.SkeletonSame.{same-skeleton-alike}
+use Rattle.theory.proofs.Reaching.KindLaws.{Out, left_true, left_closed, source_is, sink_is}
+use Rattle.theory.proofs.Skeletons.Alike.{Alike, in_along, alike_sym, alike_turned, reaches_alike}
+use Rattle.theory.proofs.Skeletons.Alike.{strong_alike, names_alike}
+use Rattle.theory.proofs.Skeletons.SkeletonSame.{same_skeleton_alike}
 
 -- where an arc leaves c's component in one network, an arc leaves it in the other
-left-carries : {M N : Network} → Alike M N → {c : ℕ} → In c M.zones → exited M c ≡ true → exited N c ≡ true
-left-carries {M} {N} A {c} i h =
-    let o : Out M c = left-true A.proper c h in
+left_carries : {M N : Network} → Alike M N → {c : ℕ} → In c M.zones → exited M c ≡ true → exited N c ≡ true
+left_carries {M} {N} A {c} i h =
+    let o : Out M c = left_true A.proper c h in
     let z : ℕ = o.0.head in
     let k : In z M.zones = A.proper.heads o.1 in
-    let r : Reach M c z = reach-trans o.2.1 (reach-arc o.1) in
-    true-unless (exited N c) (λ f.
-    let t : Together N c z = left-closed A.proper-other f ((A.reach-same c z i k).0 r) in
-    o.3 ((A.reach-same z c k i).1 t.1, r))
+    let r : Reach M c z = reach_trans o.2.1 (reach_arc o.1) in
+    true_unless (exited N c) (λ f.
+    let t : Together N c z = left_closed A.proper_other f ((A.reach_same c z i k).0 r) in
+    o.3 ((A.reach_same z c k i).1 t.1, r))
 
 -- an arc leaves c's component in both or in neither
-pub left-alike : {M N : Network} → Alike M N → {c : ℕ} → In c M.zones → exited M c ≡ exited N c
-left-alike A i = bool-agree (left-carries A i) (left-carries (alike-sym A) (in-along A.zones-same i))
+pub left_alike : {M N : Network} → Alike M N → {c : ℕ} → In c M.zones → exited M c ≡ exited N c
+left_alike A i = bool_agree (left_carries A i) (left_carries (alike_sym A) (in_along A.zones_same i))
 
 -- an arc comes into c's component in both or in neither
-pub entered-alike : {M N : Network} → Alike M N → {c : ℕ} → In c M.zones → entered M c ≡ entered N c
+pub entered_alike : {M N : Network} → Alike M N → {c : ℕ} → In c M.zones → entered M c ≡ entered N c
 unfolding turned
-entered-alike A {c} i =
-    sym (turned_left A.proper c) ∙ left-alike (alike_turned A) i ∙ turned_left A.proper-other c
+entered_alike A {c} i =
+    sym (turned_left A.proper c) ∙ left_alike (alike_turned A) i ∙ turned_left A.proper_other c
 
 module _ {M N : Network} (A : Alike M N) where
   -- the names that pass a test of what comes in and goes out are the same
-  kind-alike : (t : Bool → Bool → Bool)
+  kind_alike : (t : Bool → Bool → Bool)
       → keep (λ c. t (exited M c) (entered M c)) (names M) ≡ keep (λ c. t (exited N c) (entered N c)) (names N)
-  kind-alike t =
-      keep-agree (λ c. t (exited M c) (entered M c)) (λ c. t (exited N c) (entered N c)) (names M)
-      (λ c m. let z = (names-zone M m).0 in ap₂ t (left-alike A z) (entered-alike A z))
-      ∙ ap (keep (λ c. t (exited N c) (entered N c))) (names-alike A)
+  kind_alike t =
+      keep_agree (λ c. t (exited M c) (entered M c)) (λ c. t (exited N c) (entered N c)) (names M)
+      (λ c m. let z = (names_zone M m).0 in ap₂ t (left_alike A z) (entered_alike A z))
+      ∙ ap (keep (λ c. t (exited N c) (entered N c))) (names_alike A)
 
   -- the sources are the same
-  pub sources-alike : sources M ≡ sources N
+  pub sources_alike : sources M ≡ sources N
   unfolding sources
-  sources-alike = kind-alike (λ l e. l && not e)
+  sources_alike = kind_alike (λ l e. l && not e)
 
   -- the sinks are the same
-  pub sinks-alike : sinks M ≡ sinks N
+  pub sinks_alike : sinks M ≡ sinks N
   unfolding sinks
-  sinks-alike = kind-alike (λ l e. e && not l)
+  sinks_alike = kind_alike (λ l e. e && not l)
 
   -- the components alone are the same
-  pub alone-alike : alone M ≡ alone N
+  pub alone_alike : alone M ≡ alone N
   unfolding alone
-  alone-alike = kind-alike (λ l e. not e && not l)
+  alone_alike = kind_alike (λ l e. not e && not l)
 
 -- tests that agree on the sinks pick the same one
-pick-agree : (p q : ℕ → Bool) (ws : List ℕ) → ((w : ℕ) → In w ws → p w ≡ q w) → pick p ws ≡ pick q ws
+pick_agree : (p q : ℕ → Bool) (ws : List ℕ) → ((w : ℕ) → In w ws → p w ≡ q w) → pick p ws ≡ pick q ws
 unfolding pick
-pick-agree p q [] h = refl
-pick-agree p q (w ∷ ws) h =
+pick_agree p q [] h = refl
+pick_agree p q (w ∷ ws) h =
     let e : p w ≡ q w = h w (Memᴰ.head refl) in
-    let f : pick p ws ≡ pick q ws = pick-agree p q ws (λ x m. h x (Memᴰ.tail m)) in
+    let f : pick p ws ≡ pick q ws = pick_agree p q ws (λ x m. h x (Memᴰ.tail m)) in
     λ k.
     elim (e k) [
       | true ↦ some (record { sink = w; rest = ws })
@@ -110,10 +110,10 @@ Rests ws none = Unit {0}
 Rests ws (some t) = (x : ℕ) → In x t.rest → In x ws
 
 -- a pick leaves sinks of the list
-pick-rests : (p : ℕ → Bool) (ws : List ℕ) → Rests ws (pick p ws)
+pick_rests : (p : ℕ → Bool) (ws : List ℕ) → Rests ws (pick p ws)
 unfolding pick
-pick-rests p [] = tt
-pick-rests p (w ∷ ws) = now (p w) (pick p ws) (pick-rests p ws)
+pick_rests p [] = tt
+pick_rests p (w ∷ ws) = now (p w) (pick p ws) (pick_rests p ws)
   where
     now : (b : Bool) (o : Option Picked) → Rests ws o
         → Rests (w ∷ ws) (elim b [
@@ -128,117 +128,117 @@ pick-rests p (w ∷ ws) = now (p w) (pick p ws) (pick-rests p ws)
 -- a source's turn, from what it picked and what the others make of the sinks that are left
 abbrev turn : ℕ → (List ℕ → Ordering) → List ℕ → Option Picked → Ordering
 turn v others ws o =
-    elim o [ none ↦ with-lone v (others ws) | some t ↦ with_pair v t.sink (others t.rest) ]
+    elim o [ none ↦ with_lone v (others ws) | some t ↦ with_pair v t.sink (others t.rest) ]
 
 -- a source's turn is the same where the others make the same of sinks of the list
 turn_agree : (v : ℕ) (f g : List ℕ → Ordering) (ws : List ℕ)
     → ((us : List ℕ) → ((x : ℕ) → In x us → In x ws) → f us ≡ g us)
     → (o : Option Picked) → Rests ws o → turn v f ws o ≡ turn v g ws o
-turn_agree v f g ws h none r = ap (with-lone v) (h ws (λ x m. m))
+turn_agree v f g ws h none r = ap (with_lone v) (h ws (λ x m. m))
 turn_agree v f g ws h (some t) r = ap (with_pair v t.sink) (h t.rest r)
 
 -- tests that agree on the sources and the sinks make the same ordering
-pub pairing-agree : (r s : ℕ → ℕ → Bool) (vs ws : List ℕ)
+pub pairing_agree : (r s : ℕ → ℕ → Bool) (vs ws : List ℕ)
     → ((v w : ℕ) → In v vs → In w ws → r v w ≡ s v w) → pairing r vs ws ≡ pairing s vs ws
 unfolding pairing
-pairing-agree r s [] ws h = refl
-pairing-agree r s (v ∷ vs) ws h =
+pairing_agree r s [] ws h = refl
+pairing_agree r s (v ∷ vs) ws h =
     turn_agree v (pairing r vs) (pairing s vs) ws
-    (λ us within. pairing-agree r s vs us (λ x w m n. h x w (Memᴰ.tail m) (within w n)))
-    (pick (r v) ws) (pick-rests (r v) ws)
-    ∙ ap (turn v (pairing s vs) ws) (pick-agree (r v) (s v) ws (λ w n. h v w (Memᴰ.head refl) n))
+    (λ us within. pairing_agree r s vs us (λ x w m n. h x w (Memᴰ.tail m) (within w n)))
+    (pick (r v) ws) (pick_rests (r v) ws)
+    ∙ ap (turn v (pairing s vs) ws) (pick_agree (r v) (s v) ws (λ w n. h v w (Memᴰ.head refl) n))
 
 module _ {M N : Network} (A : Alike M N) where
   -- a source of one is a zone of it
-  source-zone : {c : ℕ} → In c (sources M) → In c M.zones
-  source-zone m = (names-zone M (source_is M m).0).0
+  source_zone : {c : ℕ} → In c (sources M) → In c M.zones
+  source_zone m = (names_zone M (source_is M m).0).0
 
   -- a sink of one is a zone of it
-  sink-zone : {c : ℕ} → In c (sinks M) → In c M.zones
-  sink-zone m = (names-zone M (sink-is M m).0).0
+  sink_zone : {c : ℕ} → In c (sinks M) → In c M.zones
+  sink_zone m = (names_zone M (sink_is M m).0).0
 
   -- points 1 and 2 are the same
-  pub ordering-alike : ordering M ≡ ordering N
+  pub ordering_alike : ordering M ≡ ordering N
   unfolding ordering
-  ordering-alike =
-      pairing-agree (reaches M) (reaches N) (sources M) (sinks M)
-      (λ v w m n. reaches-alike A (source-zone m) (sink-zone n))
-      ∙ ap₂ (pairing (reaches N)) (sources-alike A) (sinks-alike A)
+  ordering_alike =
+      pairing_agree (reaches M) (reaches N) (sources M) (sinks M)
+      (λ v w m n. reaches_alike A (source_zone m) (sink_zone n))
+      ∙ ap₂ (pairing (reaches N)) (sources_alike A) (sinks_alike A)
 
   -- the rule for s ≤ t gives the same links
-  upright-plan-alike : upright-plan M ≡ upright-plan N
-  unfolding upright-plan
-  upright-plan-alike = ap₂ links ordering-alike (alone-alike A)
+  upright_plan_alike : upright_plan M ≡ upright_plan N
+  unfolding upright_plan
+  upright_plan_alike = ap₂ links ordering_alike (alone_alike A)
 
   -- the rule runs on both as given, or on both turned
-  is-upright-alike : is-upright M ≡ is-upright N
-  unfolding is-upright
-  is-upright-alike = λ k. leb (length (sources-alike A k)) (length (sinks-alike A k))
+  is_upright_alike : is_upright M ≡ is_upright N
+  unfolding is_upright
+  is_upright_alike = λ k. leb (length (sources_alike A k)) (length (sinks_alike A k))
 
 module _ {M N : Network} (A : Alike M N) where
   -- the plan is the same, link by link
-  pub plan-alike : plan M ≡ plan N
+  pub plan_alike : plan M ≡ plan N
   unfolding plan
-  plan-alike =
-      let s : strong M ≡ strong N = strong-alike A in
-      let u : is-upright M ≡ is-upright N = is-upright-alike A in
-      let p : upright-plan M ≡ upright-plan N = upright-plan-alike A in
-      let q : upright-plan (turned M) ≡ upright-plan (turned N) = upright-plan-alike (alike_turned A) in
+  plan_alike =
+      let s : strong M ≡ strong N = strong_alike A in
+      let u : is_upright M ≡ is_upright N = is_upright_alike A in
+      let p : upright_plan M ≡ upright_plan N = upright_plan_alike A in
+      let q : upright_plan (turned M) ≡ upright_plan (turned N) = upright_plan_alike (alike_turned A) in
       λ k.
       elim (s k) [
         | true ↦ []
-        | false ↦ elim (u k) [ true ↦ p k | false ↦ map turned-link (q k) ]
+        | false ↦ elim (u k) [ true ↦ p k | false ↦ map turned_link (q k) ]
       ]
 
   -- the number of pairs is the same
-  pub plan-pairs-alike : plan-pairs M ≡ plan-pairs N
-  unfolding plan-pairs upright
-  plan-pairs-alike = ap (λ (o : Ordering). length o.pairs)
-      (ways (is-upright M) ∙ ap (λ (u : Bool). ordering (elim u [ true ↦ N | false ↦ turned N ])) (is-upright-alike A))
+  pub plan_pairs_alike : plan_pairs M ≡ plan_pairs N
+  unfolding plan_pairs upright
+  plan_pairs_alike = ap (λ (o : Ordering). length o.pairs)
+      (ways (is_upright M) ∙ ap (λ (u : Bool). ordering (elim u [ true ↦ N | false ↦ turned N ])) (is_upright_alike A))
     where
       ways : (u : Bool)
           → ordering (elim u [ true ↦ M | false ↦ turned M ]) ≡ ordering (elim u [ true ↦ N | false ↦ turned N ])
-      ways true = ordering-alike A
-      ways false = ordering-alike (alike_turned A)
+      ways true = ordering_alike A
+      ways false = ordering_alike (alike_turned A)
 
   -- the number of links that the answer carries is the same
-  pub plan-need-alike : plan-need M ≡ plan-need N
-  unfolding plan-need
-  plan-need-alike =
-      let s : strong M ≡ strong N = strong-alike A in
+  pub plan_need_alike : plan_need M ≡ plan_need N
+  unfolding plan_need
+  plan_need_alike =
+      let s : strong M ≡ strong N = strong_alike A in
       λ k.
       elim (s k) [
         | true ↦ 0
-        | false ↦ max (length (sources-alike A k)) (length (sinks-alike A k)) + length (alone-alike A k)
+        | false ↦ max (length (sources_alike A k)) (length (sinks_alike A k)) + length (alone_alike A k)
       ]
 
 -- all that a plan's answer tells is the same for both
 pub record SamePlan (M N : Network) : Type 0 where
-  pub same-plan : plan M ≡ plan N
-  pub same-pairs : plan-pairs M ≡ plan-pairs N
-  pub same-need : plan-need M ≡ plan-need N
-  pub same-sources : sources M ≡ sources N
-  pub same-sinks : sinks M ≡ sinks N
-  pub same-alone : alone M ≡ alone N
+  pub same_plan : plan M ≡ plan N
+  pub same_pairs : plan_pairs M ≡ plan_pairs N
+  pub same_need : plan_need M ≡ plan_need N
+  pub same_sources : sources M ≡ sources N
+  pub same_sinks : sinks M ≡ sinks N
+  pub same_alone : alone M ≡ alone N
 
 -- networks that are alike get the same plan, with the same counts
-same-plans : {M N : Network} → Alike M N → SamePlan M N
-same-plans A =
+same_plans : {M N : Network} → Alike M N → SamePlan M N
+same_plans A =
     record {
-      same-plan = plan-alike A;
-      same-pairs = plan-pairs-alike A;
-      same-need = plan-need-alike A;
-      same-sources = sources-alike A;
-      same-sinks = sinks-alike A;
-      same-alone = alone-alike A;
+      same_plan = plan_alike A;
+      same_pairs = plan_pairs_alike A;
+      same_need = plan_need_alike A;
+      same_sources = sources_alike A;
+      same_sinks = sinks_alike A;
+      same_alone = alone_alike A;
     }
 
 -- networks with the same zones and the same reach get the same plan, link by link, with the same counts
-pub plan-agree : {M N : Network} → Proper M → Proper N → M.zones ≡ N.zones
+pub plan_agree : {M N : Network} → Proper M → Proper N → M.zones ≡ N.zones
     → ((a b : ℕ) → In a M.zones → In b M.zones → Reach M a b ↔ Reach N a b) → SamePlan M N
-plan-agree P Q z r = same-plans (record { proper = P; proper-other = Q; zones-same = z; reach-same = r })
+plan_agree P Q z r = same_plans (record { proper = P; proper_other = Q; zones_same = z; reach_same = r })
 
 -- networks with the same zones and the same skeleton get the same plan, link by link, with the same counts
-pub plan-of-skeleton : {M N : Network} → Proper M → Proper N → M.zones ≡ N.zones → skeleton M ≡ skeleton N
+pub plan_of_skeleton : {M N : Network} → Proper M → Proper N → M.zones ≡ N.zones → skeleton M ≡ skeleton N
     → SamePlan M N
-plan-of-skeleton P Q z s = same-plans (same-skeleton-alike P Q z s)
+plan_of_skeleton P Q z s = same_plans (same_skeleton_alike P Q z s)

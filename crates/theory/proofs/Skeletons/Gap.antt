@@ -2,7 +2,7 @@
 --   leaving         a run out of a component has an arc that leaves it
 --   gap             if a reaches b, not together, and no third component lies between, then an arc joins the two
 --   bridges         the test `crosses`, with "a reaches b" in place of "an arc joins them"
---   crosses-reach   the two tests are the same
+--   crosses_reach   the two tests are the same
 -- The run's first arc that leaves a's component cannot land in a third one, so it lands in b's. Assumes nothing.
 use Prim.Native.Nat.{ℕ}
 use mathlib.Core.Path.{◌≡◌, sym}
@@ -13,25 +13,25 @@ use Rattle.rules.specs.Network.{Arc, ◌⟶◌, Network, Reach, same, step, Prop
 use Rattle.rules.specs.Components.{together, is_name}
 use Rattle.rules.specs.Lists.{any}
 use Rattle.rules.specs.Skeleton.{joined, between, crosses}
-use Rattle.theory.proofs.Ground.Bools.{bool_cases, bool-agree, true-not-false, and-true, true-and}
-use Rattle.theory.proofs.Reaching.Reach.{reach-arc, reach-trans, reaches-sound, reaches-complete}
+use Rattle.theory.proofs.Ground.Bools.{bool_cases, bool_agree, true_not_false, and_true, true_and}
+use Rattle.theory.proofs.Reaching.Reach.{reach_arc, reach_trans, reaches_sound, reaches_complete}
 use Rattle.theory.proofs.Reaching.Components.{
   Together,
-  together-sound,
-  together-complete,
-  together-refl,
-  together-sym,
-  together-trans,
+  together_sound,
+  together_complete,
+  together_refl,
+  together_sym,
+  together_trans,
 }
-use Rattle.theory.proofs.Skeletons.SkeletonLaws.{Between, Joined, joined-true, true-joined, not-apart}
-use Rattle.theory.proofs.Skeletons.SkeletonLaws.{clear-true}
+use Rattle.theory.proofs.Skeletons.SkeletonLaws.{Between, Joined, joined_true, true_joined, not_apart}
+use Rattle.theory.proofs.Skeletons.SkeletonLaws.{clear_true}
 
 -- two zones are together or not
-pub together-cases : {N : Network} → Proper N → (a b : ℕ) → Together N a b ⊎ (Together N a b → ⊥)
-together-cases {N} P a b =
+pub together_cases : {N : Network} → Proper N → (a b : ℕ) → Together N a b ⊎ (Together N a b → ⊥)
+together_cases {N} P a b =
     elim (bool_cases (together N a b)) [
-      | inl e ↦ inl (together-sound N a b e)
-      | inr e ↦ inr (λ t. true-not-false (together-complete P t) e)
+      | inl e ↦ inl (together_sound N a b e)
+      | inr e ↦ inr (λ t. true_not_false (together_complete P t) e)
     ]
 
 -- an arc that leaves a's component on a way to b
@@ -42,34 +42,34 @@ Leaving N a b =
 -- a run from a's component to a zone outside has an arc that leaves the component
 pub leaving : {N : Network} → Proper N → {a x b : ℕ}
     → Reach N x b → Together N x a → (Together N b a → ⊥) → Leaving N a b
-leaving P (same e) t n = absurd (n (together-trans (same (sym e), same e) t))
+leaving P (same e) t n = absurd (n (together_trans (same (sym e), same e) t))
 leaving P {a} (step {a = x} {b = y} m r) t n =
-    elim (together-cases P y a) [ inl s ↦ leaving P r s n | inr s ↦ (x ⟶ y, m, t, s, r) ]
+    elim (together_cases P y a) [ inl s ↦ leaving P r s n | inr s ↦ (x ⟶ y, m, t, s, r) ]
 
 -- between two components with nothing between there is an arc
 pub gap : {N : Network} → Proper N → {a b : ℕ} → Reach N a b → (Together N a b → ⊥)
     → ((c : ℕ) → In c N.zones → Between N a b c → ⊥) → Joined N a b
 gap {N} P {a} {b} r n clear =
-    let l : Leaving N a b = leaving P r together-refl (λ s. n (together-sym s)) in
+    let l : Leaving N a b = leaving P r together_refl (λ s. n (together_sym s)) in
     let z = l.0.head in
-    elim (together-cases P z b) [
+    elim (together_cases P z b) [
       | inl t ↦ (l.0, l.1, l.2, t)
       | inr t ↦ absurd (clear z (P.heads l.1) (record {
-        apart-start = λ s. l.3 (together-sym s);
-        apart-end = t;
-        from_start = reach-trans l.2.1 (reach-arc l.1);
+        apart_start = λ s. l.3 (together_sym s);
+        apart_end = t;
+        from_start = reach_trans l.2.1 (reach_arc l.1);
         to_end = l.4;
       }))
     ]
 
 -- the gap, for the test
-pub gap-joined : {N : Network} → Proper N → {a b : ℕ} → Reach N a b → (Together N a b → ⊥)
+pub gap_joined : {N : Network} → Proper N → {a b : ℕ} → Reach N a b → (Together N a b → ⊥)
     → ((c : ℕ) → In c N.zones → Between N a b c → ⊥) → joined N a b ≡ true
-gap-joined P {a} {b} r n clear = true-joined P a b (gap P r n clear)
+gap_joined P {a} {b} r n clear = true_joined P a b (gap P r n clear)
 
 -- a joined pair of components is reached, one from the other
-pub joined-reach : {N : Network} {a b : ℕ} → Joined N a b → Reach N a b
-joined-reach j = reach-trans j.2.1 (reach-trans (reach-arc j.1) j.3.0)
+pub joined_reach : {N : Network} {a b : ℕ} → Joined N a b → Reach N a b
+joined_reach j = reach_trans j.2.1 (reach_trans (reach_arc j.1) j.3.0)
 
 -- point 2 with "a reaches b" in place of "some arc joins them"
 abbrev pub bridges : Network → ℕ → ℕ → Bool
@@ -81,20 +81,20 @@ bridges N a b =
 part_gives : (x y u v c : Bool) → (y ≡ true → c ≡ true → u ≡ true → v ≡ true)
     → (x && ((y && u) && c)) ≡ true → (x && ((y && v) && c)) ≡ true
 part_gives x y u v c h e =
-    let m = and-true x _ e in
-    let r = and-true (y && u) c m.1 in
-    let j = and-true y u r.0 in
-    true-and m.0 (true-and (true-and j.0 (h j.0 r.1 j.1)) r.1)
+    let m = and_true x _ e in
+    let r = and_true (y && u) c m.1 in
+    let j = and_true y u r.0 in
+    true_and m.0 (true_and (true_and j.0 (h j.0 r.1 j.1)) r.1)
 
 -- point 2 says the same with "a reaches b" in place of "some arc joins them"
-pub crosses-reach : {N : Network} → Proper N → (a b : ℕ) → crosses N a b ≡ bridges N a b
+pub crosses_reach : {N : Network} → Proper N → (a b : ℕ) → crosses N a b ≡ bridges N a b
 unfolding crosses
-crosses-reach {N} P a b =
+crosses_reach {N} P a b =
     let named : Bool = is_name N a && is_name N b in
     let apart : Bool = not (together N a b) in
     let clear : Bool = not (any (between N a b) N.zones) in
-    bool-agree
+    bool_agree
     (part_gives named apart (joined N a b) (reaches N a b) clear
-    (λ n c j. reaches-complete P (joined-reach (joined-true N a b j))))
+    (λ n c j. reaches_complete P (joined_reach (joined_true N a b j))))
     (part_gives named apart (reaches N a b) (joined N a b) clear
-    (λ n c r. gap-joined P (reaches-sound N a b r) (not-apart P a b n) (clear-true P a b c)))
+    (λ n c r. gap_joined P (reaches_sound N a b r) (not_apart P a b n) (clear_true P a b c)))

@@ -2,9 +2,9 @@
 --   Next, Last       b comes next after a in their component; b is its lowest zone and a its highest
 --   Follows          one of the two: the meaning of `follows`
 --   Joined, Between, Crosses   the meanings of `joined`, `between` and `crosses`
---   X-true, true-X   from the test X to its meaning, and back
---   skeleton-kinds, in-skeleton-of   the skeleton's arcs are those between zones that follow or cross
---   skeleton-ends, skeleton-apart    their ends are zones, and differ
+--   X_true, true-X   from the test X to its meaning, and back
+--   skeleton_kinds, in_skeleton_of   the skeleton's arcs are those between zones that follow or cross
+--   skeleton_ends, skeleton_apart    their ends are zones, and differ
 -- Each test is made of smaller ones, and so is its law. Assumes nothing.
 use Prim.Native.Nat.{ℕ, ◌<◌}
 use mathlib.Core.Path.{◌≡◌, refl, sym, ap, ◌∙◌}
@@ -25,24 +25,24 @@ use native.Mathlib.Omega.{arith}
 use Rattle.rules.specs.Lists.{any}
 use Rattle.rules.specs.Network.{Arc, ◌⟶◌, Network, Reach, same, Proper}
 use Rattle.rules.specs.Components.{together, name, is_name}
-use Rattle.rules.specs.Skeleton.{pairs_of, higher, follows, joined, between, crosses, in-skeleton, skeleton}
+use Rattle.rules.specs.Skeleton.{pairs_of, higher, follows, joined, between, crosses, in_skeleton, skeleton}
 use Rattle.theory.proofs.Ground.Bools.{
-  and-true,
-  true-and,
-  true-not-false,
-  false-not,
-  false-unless,
-  or-else-true,
-  true-or-else,
+  and_true,
+  true_and,
+  true_not_false,
+  false_not,
+  false_unless,
+  or_else_true,
+  true_or_else,
 }
-use Rattle.theory.proofs.Ground.Lists.{any-true, true-any, false-any, keep-in, in-keep, map-in, in_map}
-use Rattle.theory.proofs.Reaching.Reach.{reaches-sound, reaches-complete}
-use Rattle.theory.proofs.Reaching.Components.{Together, together-sound, together-complete}
+use Rattle.theory.proofs.Ground.Lists.{any_true, true_any, false_any, keep_in, in_keep, map_in, in_map}
+use Rattle.theory.proofs.Reaching.Reach.{reaches_sound, reaches_complete}
+use Rattle.theory.proofs.Reaching.Components.{Together, together_sound, together_complete}
 
 -- each arc of a row of pairs starts at the row's zone and ends at a zone of the list
 pub row_in : {e : Arc} (a : ℕ) (hs : List ℕ) → In e (map (λ b. a ⟶ b) hs) → (e.tail ≡ a) × In e.head hs
 row_in {e} a hs i =
-    let m = map-in (λ b. a ⟶ b) {y = e} hs i in
+    let m = map_in (λ b. a ⟶ b) {y = e} hs i in
     (ap (λ (x : Arc). x.tail) m.2, Memᴰ.cast (ap (λ (x : Arc). x.head) m.2) m.1)
 
 -- each arc of the rows starts at a zone of the first list and ends at one of the second
@@ -67,9 +67,9 @@ in_rows {b} (c ∷ ts) hs i j =
     ]
 
 -- a pair of zones is two zones of the list
-pub pairs-in : {e : Arc} (zs : List ℕ) → In e (pairs_of zs) → In e.tail zs × In e.head zs
+pub pairs_in : {e : Arc} (zs : List ℕ) → In e (pairs_of zs) → In e.tail zs × In e.head zs
 unfolding pairs_of flat_map
-pairs-in zs i = rows_in zs zs i
+pairs_in zs i = rows_in zs zs i
 
 -- two zones of the list are a pair of zones
 pub in_pairs : {e : Arc} (zs : List ℕ) → In e.tail zs → In e.head zs → In e (pairs_of zs)
@@ -95,8 +95,8 @@ Follows N a b = Next N a b ⊎ Last N a b
 
 -- c lies in a third component, which a's reaches and which reaches b's: the meaning of `between`
 pub record Between (N : Network) (a b c : ℕ) : Type 0 where
-  pub apart-start : Together N a c → ⊥
-  pub apart-end : Together N c b → ⊥
+  pub apart_start : Together N a c → ⊥
+  pub apart_end : Together N c b → ⊥
   pub from_start : Reach N a c
   pub to_end : Reach N c b
 
@@ -106,128 +106,128 @@ Joined N a b = (e : Arc) × In e N.arcs × Together N e.tail a × Together N e.h
 
 -- a and b name two components that an arc joins, and no third lies between: the meaning of `crosses`
 pub record Crosses (N : Network) (a b : ℕ) : Type 0 where
-  pub tail-names : name N a ≡ a
-  pub head-names : name N b ≡ b
+  pub tail_names : name N a ≡ a
+  pub head_names : name N b ≡ b
   pub apart : Together N a b → ⊥
   pub arc : Joined N a b
   pub clear : (c : ℕ) → In c N.zones → Between N a b c → ⊥
 
 -- a zone that is a name names itself
-pub is-name-true : (N : Network) (z : ℕ) → is_name N z ≡ true → name N z ≡ z
+pub is_name_true : (N : Network) (z : ℕ) → is_name N z ≡ true → name N z ≡ z
 unfolding is_name
-is-name-true N z e = eqb-true (name N z) z e
+is_name_true N z e = eqb-true (name N z) z e
 
 -- a zone that names itself is a name
-pub true-is-name : (N : Network) (z : ℕ) → name N z ≡ z → is_name N z ≡ true
+pub true_is_name : (N : Network) (z : ℕ) → name N z ≡ z → is_name N z ≡ true
 unfolding is_name
-true-is-name N z e = eq-eqb (name N z) z e
+true_is_name N z e = eq-eqb (name N z) z e
 
 -- where two zones are not together, `together` says no
-apart-not : (N : Network) (a b : ℕ) → (Together N a b → ⊥) → not (together N a b) ≡ true
-apart-not N a b h = false-not (false-unless (together N a b) (λ e. h (together-sound N a b e)))
+apart_not : (N : Network) (a b : ℕ) → (Together N a b → ⊥) → not (together N a b) ≡ true
+apart_not N a b h = false_not (false_unless (together N a b) (λ e. h (together_sound N a b e)))
 
 -- where `together` says no, two zones are not together
-pub not-apart : {N : Network} → Proper N → (a b : ℕ) → not (together N a b) ≡ true → Together N a b → ⊥
-not-apart P a b e t = true-not-false (together-complete P t) (not-true _ e)
+pub not_apart : {N : Network} → Proper N → (a b : ℕ) → not (together N a b) ≡ true → Together N a b → ⊥
+not_apart P a b e t = true_not_false (together_complete P t) (not-true _ e)
 
 -- where `joined` says yes, an arc joins the two components
-pub joined-true : (N : Network) (a b : ℕ) → joined N a b ≡ true → Joined N a b
+pub joined_true : (N : Network) (a b : ℕ) → joined N a b ≡ true → Joined N a b
 unfolding joined
-joined-true N a b e =
-    let h = any-true (λ (x : Arc). together N x.tail a && together N x.head b) N.arcs e in
-    let m = and-true _ _ h.2 in
-    (h.0, h.1, together-sound N _ _ m.0, together-sound N _ _ m.1)
+joined_true N a b e =
+    let h = any_true (λ (x : Arc). together N x.tail a && together N x.head b) N.arcs e in
+    let m = and_true _ _ h.2 in
+    (h.0, h.1, together_sound N _ _ m.0, together_sound N _ _ m.1)
 
 -- where `between` says yes, the zone lies between
-pub between-true : {N : Network} → Proper N → (a b c : ℕ) → between N a b c ≡ true → Between N a b c
+pub between_true : {N : Network} → Proper N → (a b c : ℕ) → between N a b c ≡ true → Between N a b c
 unfolding between
-between-true {N} P a b c e =
-    let m = and-true _ _ e in
-    let t = and-true _ _ m.0 in
-    let r = and-true _ _ m.1 in
+between_true {N} P a b c e =
+    let m = and_true _ _ e in
+    let t = and_true _ _ m.0 in
+    let r = and_true _ _ m.1 in
     record {
-      apart-start = not-apart P a c t.0;
-      apart-end = not-apart P c b t.1;
-      from_start = reaches-sound N a c r.0;
-      to_end = reaches-sound N c b r.1;
+      apart_start = not_apart P a c t.0;
+      apart_end = not_apart P c b t.1;
+      from_start = reaches_sound N a c r.0;
+      to_end = reaches_sound N c b r.1;
     }
 
 -- where an arc joins the two components, `joined` says yes
-pub true-joined : {N : Network} → Proper N → (a b : ℕ) → Joined N a b → joined N a b ≡ true
+pub true_joined : {N : Network} → Proper N → (a b : ℕ) → Joined N a b → joined N a b ≡ true
 unfolding joined
-true-joined {N} P a b j =
-    true-any (λ (x : Arc). together N x.tail a && together N x.head b) j.1
-    (true-and (together-complete P j.2) (together-complete P j.3))
+true_joined {N} P a b j =
+    true_any (λ (x : Arc). together N x.tail a && together N x.head b) j.1
+    (true_and (together_complete P j.2) (together_complete P j.3))
 
 -- where the zone lies between, `between` says yes
-pub true-between : {N : Network} → Proper N → (a b c : ℕ) → Between N a b c → between N a b c ≡ true
+pub true_between : {N : Network} → Proper N → (a b c : ℕ) → Between N a b c → between N a b c ≡ true
 unfolding between
-true-between {N} P a b c h =
-    true-and (true-and (apart-not N a c h.apart-start) (apart-not N c b h.apart-end))
-    (true-and (reaches-complete P h.from_start) (reaches-complete P h.to_end))
+true_between {N} P a b c h =
+    true_and (true_and (apart_not N a c h.apart_start) (apart_not N c b h.apart_end))
+    (true_and (reaches_complete P h.from_start) (reaches_complete P h.to_end))
 
 -- where `between` says no of every zone, none lies between
-pub clear-true : {N : Network} → Proper N → (a b : ℕ) → not (any (between N a b) N.zones) ≡ true
+pub clear_true : {N : Network} → Proper N → (a b : ℕ) → not (any (between N a b) N.zones) ≡ true
     → (c : ℕ) → In c N.zones → Between N a b c → ⊥
-clear-true {N} P a b e c i h =
-    true-not-false (true-any (between N a b) i (true-between P a b c h)) (not-true _ e)
+clear_true {N} P a b e c i h =
+    true_not_false (true_any (between N a b) i (true_between P a b c h)) (not-true _ e)
 
 -- where no zone lies between, `between` says no of every one
-true-clear : {N : Network} → Proper N → (a b : ℕ) → ((c : ℕ) → In c N.zones → Between N a b c → ⊥)
+true_clear : {N : Network} → Proper N → (a b : ℕ) → ((c : ℕ) → In c N.zones → Between N a b c → ⊥)
     → not (any (between N a b) N.zones) ≡ true
-true-clear {N} P a b h =
-    false-not (false-any (between N a b) N.zones
-    (λ c i. false-unless (between N a b c) (λ e. h c i (between-true P a b c e))))
+true_clear {N} P a b h =
+    false_not (false_any (between N a b) N.zones
+    (λ c i. false_unless (between N a b c) (λ e. h c i (between_true P a b c e))))
 
 -- where `crosses` says yes, the arc crosses
-pub crosses-true : {N : Network} → Proper N → (a b : ℕ) → crosses N a b ≡ true → Crosses N a b
+pub crosses_true : {N : Network} → Proper N → (a b : ℕ) → crosses N a b ≡ true → Crosses N a b
 unfolding crosses
-crosses-true {N} P a b e =
-    let m = and-true _ _ e in
-    let n = and-true _ _ m.0 in
-    let r = and-true _ _ m.1 in
-    let j = and-true _ _ r.0 in
+crosses_true {N} P a b e =
+    let m = and_true _ _ e in
+    let n = and_true _ _ m.0 in
+    let r = and_true _ _ m.1 in
+    let j = and_true _ _ r.0 in
     record {
-      tail-names = is-name-true N a n.0;
-      head-names = is-name-true N b n.1;
-      apart = not-apart P a b j.0;
-      arc = joined-true N a b j.1;
-      clear = clear-true P a b r.1;
+      tail_names = is_name_true N a n.0;
+      head_names = is_name_true N b n.1;
+      apart = not_apart P a b j.0;
+      arc = joined_true N a b j.1;
+      clear = clear_true P a b r.1;
     }
 
 -- where the arc crosses, `crosses` says yes
-pub true-crosses : {N : Network} → Proper N → (a b : ℕ) → Crosses N a b → crosses N a b ≡ true
+pub true_crosses : {N : Network} → Proper N → (a b : ℕ) → Crosses N a b → crosses N a b ≡ true
 unfolding crosses
-true-crosses {N} P a b h =
-    true-and (true-and (true-is-name N a h.tail-names) (true-is-name N b h.head-names))
-    (true-and (true-and (apart-not N a b h.apart) (true-joined P a b h.arc)) (true-clear P a b h.clear))
+true_crosses {N} P a b h =
+    true_and (true_and (true_is_name N a h.tail_names) (true_is_name N b h.head_names))
+    (true_and (true_and (apart_not N a b h.apart) (true_joined P a b h.arc)) (true_clear P a b h.clear))
 
 -- where `higher` says yes, a zone of the component above a passes
-pub higher-true : (N : Network) (a : ℕ) (p : ℕ → Bool) → higher N a p ≡ true
+pub higher_true : (N : Network) (a : ℕ) (p : ℕ → Bool) → higher N a p ≡ true
     → (c : ℕ) × In c N.zones × (a < c) × (p c ≡ true) × Together N a c
 unfolding higher
-higher-true N a p e =
-    let h = any-true (λ c. ltb a c && (p c && together N a c)) N.zones e in
-    let m = and-true _ _ h.2 in
-    let r = and-true _ _ m.1 in
-    (h.0, h.1, ltb-true a h.0 m.0, r.0, together-sound N a h.0 r.1)
+higher_true N a p e =
+    let h = any_true (λ c. ltb a c && (p c && together N a c)) N.zones e in
+    let m = and_true _ _ h.2 in
+    let r = and_true _ _ m.1 in
+    (h.0, h.1, ltb-true a h.0 m.0, r.0, together_sound N a h.0 r.1)
 
 -- where `higher` says no, no zone of the component above a passes
-pub higher-false : {N : Network} → Proper N → (a : ℕ) (p : ℕ → Bool) → higher N a p ≡ false
+pub higher_false : {N : Network} → Proper N → (a : ℕ) (p : ℕ → Bool) → higher N a p ≡ false
     → (c : ℕ) → In c N.zones → a < c → p c ≡ true → Together N a c → ⊥
 unfolding higher
-higher-false {N} P a p e c i l q t =
-    true-not-false
-    (true-any (λ z. ltb a z && (p z && together N a z)) i
-    (true-and (lt-ltb a c l) (true-and q (together-complete P t))))
+higher_false {N} P a p e c i l q t =
+    true_not_false
+    (true_any (λ z. ltb a z && (p z && together N a z)) i
+    (true_and (lt-ltb a c l) (true_and q (together_complete P t))))
     e
 
 -- where no zone of the component above a passes, `higher` says no
-not-higher : (N : Network) (a : ℕ) (p : ℕ → Bool)
+not_higher : (N : Network) (a : ℕ) (p : ℕ → Bool)
     → ((c : ℕ) → In c N.zones → a < c → p c ≡ true → Together N a c → ⊥) → not (higher N a p) ≡ true
-not-higher N a p h =
-    false-not (false-unless (higher N a p)
-    (λ e. let t = higher-true N a p e in h t.0 t.1 t.2 t.3 t.4))
+not_higher N a p h =
+    false_not (false_unless (higher N a p)
+    (λ e. let t = higher_true N a p e in h t.0 t.1 t.2 t.3 t.4))
 
 -- a test in two steps is both tests together
 two_steps : (t u x y : Bool)
@@ -236,95 +236,95 @@ two_steps false u x y = refl
 two_steps true u x y = refl
 
 -- point 1's test for two zones of a component, with whether the second is above the first
-abbrev ring-test : Network → ℕ → ℕ → Bool → Bool
-ring-test N a b u =
+abbrev ring_test : Network → ℕ → ℕ → Bool → Bool
+ring_test N a b u =
     elim u [ true ↦ not (higher N a (λ c. ltb c b)) | false ↦ is_name N b && not (higher N a (λ c. true)) ]
 
 -- point 1's test, cut into what both cases share and the two cases
-follows-cut : (N : Network) (a b : ℕ)
-    → follows N a b ≡ ((not (eqb a b) && together N a b) && ring-test N a b (ltb a b))
+follows_cut : (N : Network) (a b : ℕ)
+    → follows N a b ≡ ((not (eqb a b) && together N a b) && ring_test N a b (ltb a b))
 unfolding follows
-follows-cut N a b = two_steps (not (eqb a b) && together N a b) (ltb a b) _ _
+follows_cut N a b = two_steps (not (eqb a b) && together N a b) (ltb a b) _ _
 
 -- where `follows` says yes, the arc is in the ring
-pub follows-true : {N : Network} → Proper N → (a b : ℕ) → follows N a b ≡ true → Follows N a b
-follows-true {N} P a b e = go (ltb a b) refl m.1
+pub follows_true : {N : Network} → Proper N → (a b : ℕ) → follows N a b ≡ true → Follows N a b
+follows_true {N} P a b e = go (ltb a b) refl m.1
   where
-    m : ((not (eqb a b) && together N a b) ≡ true) × (ring-test N a b (ltb a b) ≡ true)
-    m = and-true (not (eqb a b) && together N a b) (ring-test N a b (ltb a b)) (sym (follows-cut N a b) ∙ e)
+    m : ((not (eqb a b) && together N a b) ≡ true) × (ring_test N a b (ltb a b) ≡ true)
+    m = and_true (not (eqb a b) && together N a b) (ring_test N a b (ltb a b)) (sym (follows_cut N a b) ∙ e)
 
     n : (not (eqb a b) ≡ true) × (together N a b ≡ true)
-    n = and-true _ _ m.0
+    n = and_true _ _ m.0
 
-    go : (u : Bool) → ltb a b ≡ u → ring-test N a b u ≡ true → Follows N a b
+    go : (u : Bool) → ltb a b ≡ u → ring_test N a b u ≡ true → Follows N a b
     go true l h =
         inl (record {
           up = ltb-true a b l;
-          mates = together-sound N a b n.1;
-          none_between = λ c i s t. higher-false P a (λ z. ltb z b) (not-true _ h) c i s (lt-ltb c b t);
+          mates = together_sound N a b n.1;
+          none_between = λ c i s t. higher_false P a (λ z. ltb z b) (not-true _ h) c i s (lt-ltb c b t);
         })
     go false l h =
         let d : a ≡ b → ⊥ = eqb-false a b (not-true _ n.0) in
-        let k = and-true (is_name N b) _ h in
+        let k = and_true (is_name N b) _ h in
         let l = ltb-false a b l in
         inr (record {
           down = omega arith;
-          mates = together-sound N a b n.1;
-          lowest = is-name-true N b k.0;
-          none_above = λ c i s. higher-false P a (λ z. true) (not-true _ k.1) c i s refl;
+          mates = together_sound N a b n.1;
+          lowest = is_name_true N b k.0;
+          none_above = λ c i s. higher_false P a (λ z. true) (not-true _ k.1) c i s refl;
         })
 
 -- where the arc is in the ring, `follows` says yes
-pub true-follows : {N : Network} → Proper N → (a b : ℕ) → Follows N a b → follows N a b ≡ true
-true-follows {N} P a b (inl h) =
-    rw (follows-cut N a b, lt-ltb a b h.up)
-    (true-and (true-and (false-not (ne_eqb a b (omega arith))) (together-complete P h.mates))
-    (not-higher N a (λ c. ltb c b) (λ c i s t. h.none_between c i s (ltb-true c b t))))
-true-follows {N} P a b (inr h) =
-    rw (follows-cut N a b, le-ltb a b (omega arith))
-    (true-and (true-and (false-not (ne_eqb a b (omega arith))) (together-complete P h.mates))
-    (true-and (true-is-name N b h.lowest) (not-higher N a (λ c. true) (λ c i s t. h.none_above c i s))))
+pub true_follows : {N : Network} → Proper N → (a b : ℕ) → Follows N a b → follows N a b ≡ true
+true_follows {N} P a b (inl h) =
+    rw (follows_cut N a b, lt-ltb a b h.up)
+    (true_and (true_and (false_not (ne_eqb a b (omega arith))) (together_complete P h.mates))
+    (not_higher N a (λ c. ltb c b) (λ c i s t. h.none_between c i s (ltb-true c b t))))
+true_follows {N} P a b (inr h) =
+    rw (follows_cut N a b, le-ltb a b (omega arith))
+    (true_and (true_and (false_not (ne_eqb a b (omega arith))) (together_complete P h.mates))
+    (true_and (true_is_name N b h.lowest) (not_higher N a (λ c. true) (λ c i s t. h.none_above c i s))))
 
 -- an arc of the skeleton is between zones
-pub skeleton-ends : {e : Arc} (N : Network) → In e (skeleton N) → In e.tail N.zones × In e.head N.zones
+pub skeleton_ends : {e : Arc} (N : Network) → In e (skeleton N) → In e.tail N.zones × In e.head N.zones
 unfolding skeleton
-skeleton-ends N i = pairs-in N.zones (keep-in (in-skeleton N) (pairs_of N.zones) i).0
+skeleton_ends N i = pairs_in N.zones (keep_in (in_skeleton N) (pairs_of N.zones) i).0
 
 -- an arc of the skeleton is in the ring of a component or crosses from one to another
-pub skeleton-kinds : {N : Network} → Proper N → {e : Arc} → In e (skeleton N)
+pub skeleton_kinds : {N : Network} → Proper N → {e : Arc} → In e (skeleton N)
     → Follows N e.tail e.head ⊎ Crosses N e.tail e.head
-unfolding skeleton in-skeleton
-skeleton-kinds {N} P {e} i =
-    let k = keep-in (in-skeleton N) (pairs_of N.zones) i in
-    elim (or-else-true (follows N e.tail e.head) (crosses N e.tail e.head) k.1) [
-      | inl h ↦ inl (follows-true P e.tail e.head h)
-      | inr h ↦ inr (crosses-true P e.tail e.head h)
+unfolding skeleton in_skeleton
+skeleton_kinds {N} P {e} i =
+    let k = keep_in (in_skeleton N) (pairs_of N.zones) i in
+    elim (or_else_true (follows N e.tail e.head) (crosses N e.tail e.head) k.1) [
+      | inl h ↦ inl (follows_true P e.tail e.head h)
+      | inr h ↦ inr (crosses_true P e.tail e.head h)
     ]
 
 -- the test of one of the two kinds passes where an arc is of that kind
-true-kinds : {N : Network} → Proper N → {a b : ℕ} → Follows N a b ⊎ Crosses N a b
+true_kinds : {N : Network} → Proper N → {a b : ℕ} → Follows N a b ⊎ Crosses N a b
     → (follows N a b ≡ true) ⊎ (crosses N a b ≡ true)
-true-kinds P {a} {b} (inl h) = inl (true-follows P a b h)
-true-kinds P {a} {b} (inr h) = inr (true-crosses P a b h)
+true_kinds P {a} {b} (inl h) = inl (true_follows P a b h)
+true_kinds P {a} {b} (inr h) = inr (true_crosses P a b h)
 
 -- an arc between zones that is of one of the two kinds is in the skeleton
-pub in-skeleton-of : {N : Network} → Proper N → {a b : ℕ} → In a N.zones → In b N.zones
+pub in_skeleton_of : {N : Network} → Proper N → {a b : ℕ} → In a N.zones → In b N.zones
     → Follows N a b ⊎ Crosses N a b → In (a ⟶ b) (skeleton N)
-unfolding skeleton in-skeleton
-in-skeleton-of {N} P {a} {b} i j k =
-    in-keep (in-skeleton N) (in_pairs N.zones i j) (true-or-else (follows N a b) (crosses N a b) (true-kinds P k))
+unfolding skeleton in_skeleton
+in_skeleton_of {N} P {a} {b} i j k =
+    in_keep (in_skeleton N) (in_pairs N.zones i j) (true_or_else (follows N a b) (crosses N a b) (true_kinds P k))
 
 -- the ends of a ring's arc are together
-pub follows-together : {N : Network} {a b : ℕ} → Follows N a b → Together N a b
-follows-together (inl h) = h.mates
-follows-together (inr h) = h.mates
+pub follows_together : {N : Network} {a b : ℕ} → Follows N a b → Together N a b
+follows_together (inl h) = h.mates
+follows_together (inr h) = h.mates
 
 -- the ends of a ring's arc differ
-pub follows-apart : {N : Network} {a b : ℕ} → Follows N a b → a ≡ b → ⊥
-follows-apart (inl h) e = omega arith
-follows-apart (inr h) e = omega arith
+pub follows_apart : {N : Network} {a b : ℕ} → Follows N a b → a ≡ b → ⊥
+follows_apart (inl h) e = omega arith
+follows_apart (inr h) e = omega arith
 
 -- no arc of the skeleton goes from a zone to itself
-pub skeleton-apart : {N : Network} → Proper N → {e : Arc} → In e (skeleton N) → e.tail ≡ e.head → ⊥
-skeleton-apart P i q =
-    elim (skeleton-kinds P i) [ inl h ↦ follows-apart h q | inr h ↦ h.apart (same q, same (sym q)) ]
+pub skeleton_apart : {N : Network} → Proper N → {e : Arc} → In e (skeleton N) → e.tail ≡ e.head → ⊥
+skeleton_apart P i q =
+    elim (skeleton_kinds P i) [ inl h ↦ follows_apart h q | inr h ↦ h.apart (same q, same (sym q)) ]

@@ -2,9 +2,9 @@
 -- Assumes nothing.
 use borrow.Author.Rules.{rules}
 use native.Mathlib.Omega.{arith}
-use Rattle.memory.proofs.Puts.{put-long}
+use Rattle.memory.proofs.Puts.{put_long}
 use Rattle.uniting.proofs.HeadsLeft.{left_up}
-use Rattle.turning.proofs.Noting.{Noting, note-start, note-laid, note-low, note-room, note-turn, note-end}
+use Rattle.turning.proofs.Noting.{Noting, note_start, note_laid, note_low, note_room, note_turn, note_end}
 use Rattle.turning.proofs.note.Statement.{statement}
 use Rattle.turning.proofs.note.Tie as tie
 
@@ -24,18 +24,18 @@ loop-again c =
     let d = c.before.before.before.before.before.before in
     let t = d.before.before.before.before in
     let l = t.before.before.before in
-    note-turn (start l).requires.0 (start l).requires.1.0 l.loop.invariant (omega arith) t.wide.result t.wide.ensures
+    note_turn (start l).requires.0 (start l).requires.1.0 l.loop.invariant (omega arith) t.wide.result t.wide.ensures
     d.take.new.0 d.take.new.1.1.1.1.0 d.take.new.1.1.1.1.1.0 d.take.result
     d.take.ensures
 
 returns : tie.Need-returns invariant-loop decreases-loop
-returns c = note-end c.before.loop.invariant c.loop-test.false
+returns c = note_end c.before.loop.invariant c.loop-test.false
 
 loop-holds : tie.Need-loop-init invariant-loop decreases-loop
 loop-holds c =
     let e = c.before.before in
     let s = e.before.before.before.before.before in
-    note-start s.requires.0 s.args.j s.requires.1.0 c.heads-at2.result e.heads-at.result
+    note_start s.requires.0 s.args.j s.requires.1.0 c.heads-at2.result e.heads-at.result
     c.heads-at2.ensures e.heads-at.ensures s.args.tails.now s.args.heads.now s.args.put
 
 add-heads-at : tie.Need-overflow-add-heads-at invariant-loop decreases-loop
@@ -73,13 +73,13 @@ take-requires c κs =
     let t = c.before.before.before in
     let l = t.before.before.before in
     let s = start l in (
-      note-laid s.pre.0 s.pre.1.0 l.loop.invariant (omega arith) t.wide.result t.wide.ensures,
+      note_laid s.pre.0 s.pre.1.0 l.loop.invariant (omega arith) t.wide.result t.wide.ensures,
       (
         (
           s.pre.1.0,
-          note-low s.pre.0 s.pre.1.0 l.loop.invariant (omega arith) t.wide.result t.wide.ensures,
+          note_low s.pre.0 s.pre.1.0 l.loop.invariant (omega arith) t.wide.result t.wide.ensures,
         ),
-        note-room s.pre.0 s.pre.1.0 l.loop.invariant (omega arith) t.wide.result t.wide.ensures
+        note_room s.pre.0 s.pre.1.0 l.loop.invariant (omega arith) t.wide.result t.wide.ensures
             s.pre.1.1,
       ),
     )
@@ -94,13 +94,13 @@ same_length : tie.Need-same-length invariant-loop decreases-loop
 same_length c = search rules
 
 same-length-2 : tie.Need-same-length-2 invariant-loop decreases-loop
-same-length-2 c = (put-long c.before.loop.invariant.put).0
+same-length-2 c = (put_long c.before.loop.invariant.put).0
 
 same-length-3 : tie.Need-same-length-3 invariant-loop decreases-loop
-same-length-3 c = (put-long c.before.loop.invariant.put).1
+same-length-3 c = (put_long c.before.loop.invariant.put).1
 
-pub note-spec : {M : Type 1} → statement M
-note-spec =
+pub note_spec : {M : Type 1} → statement M
+note_spec =
     tie.close
     (tie.spec
     invariant-loop

@@ -1,6 +1,6 @@
 -- `turning::turn` meets its contract: U, then R. Assumes nothing.
 use borrow.Author.Rules.{rules}
-use Rattle.turning.proofs.Turns.{turn-laid, turn-room, turn_end}
+use Rattle.turning.proofs.Turns.{turn_laid, turn_room, turn_end}
 use Rattle.turning.proofs.turn.Statement.{statement}
 use Rattle.turning.proofs.turn.Tie as tie
 
@@ -26,10 +26,10 @@ note-requires c κs =
     let u = c.before.before.before.before.before in
     let s = start u in
     let a = s.args in (
-      turn-laid s.pre.0 a.j s.pre.1.0 u.unite.new.0 u.unite.ensures,
+      turn_laid s.pre.0 a.j s.pre.1.0 u.unite.new.0 u.unite.ensures,
       (
         s.pre.1.0,
-        turn-room s.pre.0 a.j s.pre.1.0 u.unite.new.0 u.unite.ensures a.tails.now
+        turn_room s.pre.0 a.j s.pre.1.0 u.unite.new.0 u.unite.ensures a.tails.now
             a.heads.now a.put s.pre.1.1,
       ),
     )

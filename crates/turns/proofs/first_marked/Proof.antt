@@ -65,8 +65,8 @@ loop-again c =
 returns-2 : tie.Need-returns-2 invariant-loop decreases-loop
 returns-2 c = λ k h. c.before.loop.invariant.1 k (omega arith)
 
-pub first-marked-spec : {M : Type 1} → statement M
-first-marked-spec =
+pub first_marked_spec : {M : Type 1} → statement M
+first_marked_spec =
     tie.close
     (tie.spec
     invariant-loop

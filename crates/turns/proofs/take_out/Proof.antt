@@ -5,13 +5,13 @@ use Prim.Native.Nat.{◌+◌, ◌-◌, ◌≤◌, ◌<◌}
 use lib.ListN.{length}
 use native.Mathlib.Omega.{arith}
 use borrow.Author.Rules.{rules}
-use Rattle.turns.specs.Turn.{Taken-out}
+use Rattle.turns.specs.Turn.{TakenOut}
 use Rattle.turns.proofs.TakeOut.{taken_none, taken_more}
 use Rattle.turns.proofs.take_out.Statement.{statement}
 use Rattle.turns.proofs.take_out.Tie as tie
 
 abbrev invariant-loop : tie.invariant-loop
-invariant-loop work₀ at count j i₀ work i = (j < i) × ((i ≤ count) × Taken-out work₀ work at i j)
+invariant-loop work₀ at count j i₀ work i = (j < i) × ((i ≤ count) × TakenOut work₀ work at i j)
 
 abbrev decreases-loop : tie.decreases-loop
 decreases-loop work₀ at count j i₀ work i = count - i
@@ -69,8 +69,8 @@ returns c =
     let all : l.i ≡ c.before.before.args.count = omega arith in
     rw all at l.invariant.1.1
 
-pub take-out-spec : {M : Type 1} → statement M
-take-out-spec =
+pub take_out_spec : {M : Type 1} → statement M
+take_out_spec =
     tie.close
     (tie.spec
     invariant-loop

@@ -6,8 +6,8 @@ use Prim.Native.Nat.{ℕ, ◌+◌, ◌≤◌, ◌<◌}
 use native.Mathlib.Omega.{arith}
 use lib.ListN.{length, get_or}
 use Rattle.arranged.specs.declared.Found.TheVariants.{At}
-use Rattle.turns.specs.Turn.{First-marked}
-use Rattle.turns.proofs.TurnLaws.{Found-by, searchable, lookable, turned-nothing, turned-found}
+use Rattle.turns.specs.Turn.{FirstMarked}
+use Rattle.turns.proofs.TurnLaws.{FoundBy, searchable, lookable, turned_nothing, turned_found}
 use Rattle.turns.proofs.turn.Statement.{statement}
 use Rattle.turns.proofs.turn.Tie as tie
 
@@ -26,7 +26,7 @@ marked c = c.search.new.0
 -- the marks are those of a search from cleared marks
 done : (c : Here) →
     let a = (entry c).args in
-    Found-by a.work.now (marked c) a.rows a.at a.source
+    FoundBy a.work.now (marked c) a.rows a.at a.source
 done c = rw c.before.before.before.before.fill.ensures at c.search.ensures
 
 -- the look along the sinks stays within the memory
@@ -53,7 +53,7 @@ place c = c.j.given.0.0
 -- it is the first of those left that has a mark
 found : (c : There) →
     let a = (entry (searched c)).args in
-    First-marked (marked (searched c)) a.at.marks a.sinks a.left (At (place c))
+    FirstMarked (marked (searched c)) a.at.marks a.sinks a.left (At (place c))
 found c = rw c.j.given.1 at c.before.before.first-marked.ensures
 
 -- its place lies in the memory
@@ -83,7 +83,7 @@ returns : tie.Need-returns
 returns c =
     let d = c.before.before.before.before.before.before in
     let a = (entry d).args in
-    turned-nothing a.work.now a.rows a.at a.source a.sinks a.left (entry d).requires
+    turned_nothing a.work.now a.rows a.at a.source a.sinks a.left (entry d).requires
     (marked d) (done d) (rw c.enum_told.given.1 at c.before.before.first-marked.ensures)
 
 enum-known-j : tie.Need-enum-known-j
@@ -114,7 +114,7 @@ returns-2 c =
     let d = c.before.before.before.before.before.before.before in
     let s = searched d in
     let a = (entry s).args in
-    turned-found a.work.now a.rows a.at a.source a.sinks a.left (entry s).pre
+    turned_found a.work.now a.rows a.at a.source a.sinks a.left (entry s).pre
     (marked s) (done s) c.before.before.take_out.new.0 (place d)
     c.before.before.before.before.wide.result (found d)
     c.before.before.before.before.wide.ensures c.before.before.take_out.ensures

@@ -28,5 +28,5 @@ add-result c =
     let s = c.before.before.before.before.before in
     omega (arith, c.before.wide.ensures, s.requires.0.fits s.args.j s.requires.1)
 
-pub heads-at-spec : {M : Type 1} → statement M
-heads-at-spec = tie.close (tie.spec add_wide mul_wide shared-slice-read-wide wide-requires add-result returns)
+pub heads_at_spec : {M : Type 1} → statement M
+heads_at_spec = tie.close (tie.spec add_wide mul_wide shared-slice-read-wide wide-requires add-result returns)

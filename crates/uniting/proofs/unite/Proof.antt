@@ -5,13 +5,13 @@ use mathlib.Core.Path.{ap}
 use Prim.Native.Nat.{ℕ, ◌-◌}
 use native.Mathlib.Omega.{arith}
 use Rattle.uniting.proofs.HeadsLeft.{left_up}
-use Rattle.uniting.proofs.Uniting.{Uniting, Row-ends, Uniting-any, unite-start, unite-low, unite-rooms}
-use Rattle.uniting.proofs.Uniting.{unite-turn, unite-end}
+use Rattle.uniting.proofs.Uniting.{Uniting, RowEnds, UnitingAny, unite_start, unite_low, unite_rooms}
+use Rattle.uniting.proofs.Uniting.{unite_turn, unite_end}
 use Rattle.uniting.proofs.unite.Statement.{statement}
 use Rattle.uniting.proofs.unite.Tie as tie
 
 abbrev invariant-loop : tie.invariant-loop
-invariant-loop work₀ j to left₀ work left = Uniting-any work₀ work j to left₀ left
+invariant-loop work₀ j to left₀ work left = UnitingAny work₀ work j to left₀ left
 
 abbrev decreases-loop : tie.decreases-loop
 decreases-loop work₀ j to left₀ work left = left
@@ -24,7 +24,7 @@ start l = l.before.before.before.before.before.before
 ends : (l : tie.At-loop invariant-loop decreases-loop) →
     let a = (start l).args in
     let to = l.before.before.before.heads-at.result in
-    Row-ends a.work.now a.b a.j to (to - l.before.heads-at2.result)
+    RowEnds a.work.now a.b a.j to (to - l.before.heads-at2.result)
 ends l =
     let h = l.before in
     let s = start l in
@@ -46,16 +46,16 @@ loop-again c =
     let d = c.before.before in
     let t = d.before.before in
     let l = t.before.before.before in
-    unite-turn l.loop.invariant (omega arith) t.wide.result t.wide.ensures d.join.new.0 d.join.ensures
+    unite_turn l.loop.invariant (omega arith) t.wide.result t.wide.ensures d.join.new.0 d.join.ensures
 
 returns : tie.Need-returns invariant-loop decreases-loop
-returns c = unite-end (so_far c.before) c.loop-test.false
+returns c = unite_end (so_far c.before) c.loop-test.false
 
 loop-holds : tie.Need-loop-init invariant-loop decreases-loop
 loop-holds c =
     let e = c.before.before in
     let a = e.before.before.before.args in
-    unite-start a.work.now a.j e.heads-at.result (e.heads-at.result - c.heads-at2.result)
+    unite_start a.work.now a.j e.heads-at.result (e.heads-at.result - c.heads-at2.result)
 
 add-heads-at : tie.Need-overflow-add-heads-at invariant-loop decreases-loop
 add-heads-at c = search rules
@@ -100,7 +100,7 @@ mul-join-2 c =
     omega (
       arith,
       s.pre.0.small,
-      unite-low s.pre.0 s.pre.1 (so_far l) (omega arith) t.wide.result t.wide.ensures,
+      unite_low s.pre.0 s.pre.1 (so_far l) (omega arith) t.wide.result t.wide.ensures,
     )
 
 join-requires : tie.Need-join-requires invariant-loop decreases-loop
@@ -108,7 +108,7 @@ join-requires c κs =
     let t = c.before in
     let l = t.before.before.before in
     let s = start l in
-    unite-rooms s.pre.0 s.pre.1 (so_far l) (omega arith) t.wide.result t.wide.ensures
+    unite_rooms s.pre.0 s.pre.1 (so_far l) (omega arith) t.wide.result t.wide.ensures
 
 sub-left-2 : tie.Need-overflow-sub-left-2 invariant-loop decreases-loop
 sub-left-2 c = search rules
@@ -119,8 +119,8 @@ loop-less c = search rules
 same_length : tie.Need-same-length invariant-loop decreases-loop
 same_length c = (so_far c.before).long
 
-pub unite-spec : {M : Type 1} → statement M
-unite-spec =
+pub unite_spec : {M : Type 1} → statement M
+unite_spec =
     tie.close
     (tie.spec
     invariant-loop

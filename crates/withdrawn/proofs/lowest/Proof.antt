@@ -4,7 +4,7 @@ use borrow.Author.Rules.{rules}
 use native.Mathlib.Omega.{arith}
 use Prim.Native.Nat.{◌≤◌, ◌-◌}
 use lib.ListN.{length}
-use Rattle.withdrawn.proofs.Fronts.{Front, front-more, lowest-found}
+use Rattle.withdrawn.proofs.Fronts.{Front, front_more, lowest_found}
 use Rattle.withdrawn.proofs.lowest.Statement.{statement}
 use Rattle.withdrawn.proofs.lowest.Tie as tie
 
@@ -29,7 +29,7 @@ cast-if1 c = omega (arith, c.shared-slice-known.given c.before.before.loop.i)
 returns : tie.Need-returns invariant-loop decreases-loop
 returns c =
     let l = c.before.before.before in
-    lowest-found l.before.args.gone.now l.before.requires l.loop.i l.loop.invariant.1 l.loop.invariant.0
+    lowest_found l.before.args.gone.now l.before.requires l.loop.i l.loop.invariant.1 l.loop.invariant.0
     (λ h. c.if1.true)
 
 add-i : tie.Need-overflow-add-i invariant-loop decreases-loop
@@ -41,16 +41,16 @@ loop-less c = search rules
 loop-again : tie.Need-loop-preserved invariant-loop decreases-loop
 loop-again c =
     let l = c.before.before.before in
-    (front-more l.before.args.gone.now l.loop.i l.loop.invariant.0 c.if1.false, search rules)
+    (front_more l.before.args.gone.now l.loop.i l.loop.invariant.0 c.if1.false, search rules)
 
 returns-2 : tie.Need-returns-2 invariant-loop decreases-loop
 returns-2 c =
     let l = c.before in
-    lowest-found l.before.args.gone.now l.before.requires l.loop.i l.loop.invariant.1 l.loop.invariant.0
+    lowest_found l.before.args.gone.now l.before.requires l.loop.i l.loop.invariant.1 l.loop.invariant.0
     (λ h e. omega arith)
 
-pub lowest-spec : {M : Type 1} → statement M
-lowest-spec =
+pub lowest_spec : {M : Type 1} → statement M
+lowest_spec =
     tie.close
     (tie.spec
     invariant-loop

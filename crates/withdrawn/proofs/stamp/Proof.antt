@@ -9,7 +9,7 @@ use lib.ListN.{length, get_or, take}
 use lib.Seq.{take-length}
 use Rattle.theory.proofs.Ground.Indices.{at_in}
 use Rattle.withdrawn.specs.Withdrawn.{Stamped}
-use Rattle.withdrawn.proofs.Stamps.{stamped-none, stamped-more}
+use Rattle.withdrawn.proofs.Stamps.{stamped_none, stamped_more}
 use Rattle.withdrawn.proofs.stamp.Statement.{statement}
 use Rattle.withdrawn.proofs.stamp.Tie as tie
 
@@ -38,7 +38,7 @@ inside c =
 loop-holds : tie.Need-loop-init invariant-loop decreases-loop
 loop-holds c =
     let a = c.args in
-    (stamped-none a.work.now a.at a.n a.mark, omega arith)
+    (stamped_none a.work.now a.at a.n a.mark, omega arith)
 
 mul-work : tie.Need-overflow-mul-work invariant-loop decreases-loop
 mul-work c = search rules
@@ -68,7 +68,7 @@ loop-again : tie.Need-loop-preserved invariant-loop decreases-loop
 loop-again c =
     let l = c.before.before in
     let a = l.before.args in (
-      stamped-more a.work.now l.loop.work a.gone.now a.at a.n l.loop.k a.mark l.loop.invariant.0
+      stamped_more a.work.now l.loop.work a.gone.now a.at a.n l.loop.k a.mark l.loop.invariant.0
           l.before.requires.0 (search rules) (low c),
       search rules,
     )
@@ -84,8 +84,8 @@ returns c =
     let all : take l.loop.k a.gone.now ≡ a.gone.now = rw e (take-length a.gone.now) in
     subst (λ (g : List ℕ). Stamped a.work.now l.loop.work a.at a.n g a.mark) all l.loop.invariant.0
 
-pub stamp-spec : {M : Type 1} → statement M
-stamp-spec =
+pub stamp_spec : {M : Type 1} → statement M
+stamp_spec =
     tie.close
     (tie.spec
     invariant-loop

@@ -1,6 +1,6 @@
 -- `workmap::map_of` meets its contract: each part is made as the map has it. Assumes nothing.
 use borrow.Author.Rules.{rules}
-use Rattle.workmap.proofs.Places.{map-parts}
+use Rattle.workmap.proofs.Places.{map_parts}
 use Rattle.workmap.proofs.map_of.Statement.{statement}
 use Rattle.workmap.proofs.map_of.Tie as tie
 
@@ -58,7 +58,7 @@ returns c =
     let k = c.before.before.before.before.before.before.before in
     let d = k.before in
     let o = d.before in
-    map-parts
+    map_parts
     o.before.before.before.before.before.asked-work.ensures
     o.before.before.before.before.rows_at.ensures
     o.before.before.before.turned-at.ensures
@@ -75,8 +75,8 @@ returns c =
     c.before.table_at.ensures
     c.rows-at2.ensures
 
-pub map-of-spec : {M : Type 1} → statement M
-map-of-spec =
+pub map_of_spec : {M : Type 1} → statement M
+map_of_spec =
     tie.close
     (tie.spec
     asked-work-requires

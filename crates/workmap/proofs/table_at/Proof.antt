@@ -17,5 +17,5 @@ returns : tie.Need-returns
 returns c =
     ap {B = TableAt} (λ (R : RowsAt). record { tops = 8 * c.before.args.zones; rows = R }) c.rows_at.ensures
 
-pub table-at-spec : {M : Type 1} → statement M
-table-at-spec = tie.close (tie.spec mul-t2 rows-at-requires returns)
+pub table_at_spec : {M : Type 1} → statement M
+table_at_spec = tie.close (tie.spec mul-t2 rows-at-requires returns)

@@ -6,15 +6,15 @@ use mathlib.Core.Path.{◌≡◌, refl, sym, ◌∙◌}
 use mathlib.Core.Logic.{inl, inr}
 use lib.ListN.{length}
 use borrow.Author.Rules.{rules}
-use Rattle.rules.specs.Calls.{first-trouble}
-use Rattle.probes.proofs.Chains.{found-stays, found-goes-on}
-use Rattle.zonelists.proofs.Along.{rest, rest-high, rest-low, rest-next, rest-none}
+use Rattle.rules.specs.Calls.{first_trouble}
+use Rattle.probes.proofs.Chains.{found_stays, found_goes_on}
+use Rattle.zonelists.proofs.Along.{rest, rest_high, rest_low, rest_next, rest_none}
 use Rattle.zonelists.proofs.list.Statement.{statement}
 use Rattle.zonelists.proofs.list.Tie as tie
 
 abbrev invariant-loop : tie.invariant-loop
 invariant-loop zones list low₀ i₀ low i =
-    (i ≤ length list) × (first-trouble (rest zones 0 0 list) ≡ first-trouble (rest zones i low list))
+    (i ≤ length list) × (first_trouble (rest zones 0 0 list) ≡ first_trouble (rest zones i low list))
 
 abbrev decreases-loop : tie.decreases-loop
 decreases-loop zones list low₀ i₀ low i = length list - i
@@ -31,7 +31,7 @@ loop-again c =
     let inside = e.before.before.loop-test.true in (
       search rules,
       l.loop.invariant.1
-          ∙ rest-next a.zones l.loop.i l.loop.low a.list.now inside e.if1.false c.if2.false,
+          ∙ rest_next a.zones l.loop.i l.loop.low a.list.now inside e.if1.false c.if2.false,
     )
 
 returns-2 : tie.Need-returns-2 invariant-loop decreases-loop
@@ -39,14 +39,14 @@ returns-2 c =
     let l = c.before.before.before in
     let a = (entry l).args in
     let inside = c.before.before.loop-test.true in
-    found-goes-on l.before.enum_told.given.1
+    found_goes_on l.before.enum_told.given.1
     (record {
       first =
           sym
           (l.loop.invariant.1
           ∙ elim c.if1.branch [
-            | inl h ↦ rest-high a.zones l.loop.i l.loop.low a.list.now inside h.taken
-            | inr h ↦ rest-low a.zones l.loop.i l.loop.low a.list.now inside h.1.taken
+            | inl h ↦ rest_high a.zones l.loop.i l.loop.low a.list.now inside h.taken
+            | inr h ↦ rest_low a.zones l.loop.i l.loop.low a.list.now inside h.1.taken
           ]);
     })
 
@@ -54,14 +54,14 @@ returns-3 : tie.Need-returns-3 invariant-loop decreases-loop
 returns-3 c =
     let l = c.before in
     let a = (entry l).args in
-    found-goes-on l.before.enum_told.given.1
+    found_goes_on l.before.enum_told.given.1
     (record {
       first =
-          sym (l.loop.invariant.1 ∙ rest-none a.zones l.loop.i l.loop.low a.list.now c.loop-test.false);
+          sym (l.loop.invariant.1 ∙ rest_none a.zones l.loop.i l.loop.low a.list.now c.loop-test.false);
     })
 
 returns : tie.Need-returns invariant-loop decreases-loop
-returns c = found-stays _ c.before.before2.given.1
+returns c = found_stays _ c.before.before2.given.1
 
 loop-holds : tie.Need-loop-init invariant-loop decreases-loop
 loop-holds c = (search rules, refl)
@@ -90,8 +90,8 @@ add-i c = search rules
 loop-less : tie.Need-loop-smaller invariant-loop decreases-loop
 loop-less c = search rules
 
-pub list-spec : {M : Type 1} → statement M
-list-spec =
+pub list_spec : {M : Type 1} → statement M
+list_spec =
     tie.close
     (tie.spec
     invariant-loop

@@ -8,7 +8,7 @@ use lib.ListN.{length, get_or, drop, length-set}
 use Rattle.rules.specs.Lists.{listed}
 use Rattle.zoneset.specs.Held.{held}
 use Rattle.theory.proofs.Ground.Indices.{at_in}
-use Rattle.zoneset.proofs.SetLaws.{none_yet, put-held, put-listed}
+use Rattle.zoneset.proofs.SetLaws.{none_yet, put_held, put_listed}
 use Rattle.zoneset.proofs.fill.Statement.{statement}
 use Rattle.zoneset.proofs.fill.Tie as tie
 
@@ -20,26 +20,26 @@ abbrev decreases-loop : tie.decreases-loop
 decreases-loop list words₀ i₀ words i = i
 
 -- the number that the turn puts in
-abbrev zone-now : tie.After-shared-slice-known invariant-loop decreases-loop → ℕ
-zone-now c = get_or c.before.before.before.args.list.now (c.before.before.loop.i - 1) 0
+abbrev zone_now : tie.After-shared-slice-known invariant-loop decreases-loop → ℕ
+zone_now c = get_or c.before.before.before.args.list.now (c.before.before.loop.i - 1) 0
 
 -- it is below 1,024
-below : (c : tie.After-shared-slice-known invariant-loop decreases-loop) → zone-now c < 1024
+below : (c : tie.After-shared-slice-known invariant-loop decreases-loop) → zone_now c < 1024
 below c =
     let xs = c.before.before.before.args.list.now in
-    c.before.before.before.requires (zone-now c) (at_in xs (c.before.before.loop.i - 1) (omega arith))
+    c.before.before.before.requires (zone_now c) (at_in xs (c.before.before.loop.i - 1) (omega arith))
 
 loop-again : tie.Need-loop-preserved invariant-loop decreases-loop
 loop-again c =
     let l = c.before.before.loop in
     let xs = c.before.before.before.args.list.now in
-    let inside : zone-now c / 64 < length l.words = omega (arith, below c) in (
+    let inside : zone_now c / 64 < length l.words = omega (arith, below c) in (
       search rules,
       (
         simp length-set l.invariant.1.0,
         λ z.
-            put-held l.words (zone-now c) z inside
-            ∙ put-listed xs l.i z (held l.words z) (omega arith) (omega arith) (l.invariant.1.1 z),
+            put_held l.words (zone_now c) z inside
+            ∙ put_listed xs l.i z (held l.words z) (omega arith) (omega arith) (l.invariant.1.1 z),
       ),
     )
 

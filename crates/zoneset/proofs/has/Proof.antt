@@ -4,22 +4,22 @@ use borrow.Author.Rules.{rules}
 use mathlib.Core.Path.{sym}
 use Prim.Native.Nat.{◌/◌, ◌%◌}
 use lib.ListN.{get_or}
-use Rattle.bits.proofs.Numbers.{bit-read}
+use Rattle.bits.proofs.Numbers.{bit_read}
 use Rattle.zoneset.specs.Held.{held}
-use Rattle.zoneset.proofs.SetLaws.{beyond-held}
+use Rattle.zoneset.proofs.SetLaws.{beyond_held}
 use Rattle.zoneset.proofs.has.Statement.{statement}
 use Rattle.zoneset.proofs.has.Tie as tie
 
 returns : tie.Need-returns
 returns c =
     let a = c.before.args in
-    sym (beyond-held a.words.now a.zone c.if1.true)
+    sym (beyond_held a.words.now a.zone c.if1.true)
 
 returns-2 : tie.Need-returns-2
 unfolding held
 returns-2 c =
     let a = c.before.before.args in
-    bit-read (get_or a.words.now (a.zone / 64) 0) (a.zone % 64)
+    bit_read (get_or a.words.now (a.zone / 64) 0) (a.zone % 64)
 
 mul-result : tie.Need-overflow-mul-result
 mul-result c = search rules
@@ -30,5 +30,5 @@ shared-slice-read-result c = search rules
 shr-result : tie.Need-overflow-shr-result
 shr-result c = search rules
 
-pub has-spec : {M : Type 1} → statement M
-has-spec = tie.close (tie.spec returns mul-result shared-slice-read-result shr-result returns-2)
+pub has_spec : {M : Type 1} → statement M
+has_spec = tie.close (tie.spec returns mul-result shared-slice-read-result shr-result returns-2)

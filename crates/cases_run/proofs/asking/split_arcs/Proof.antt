@@ -4,8 +4,8 @@ use Prim.Native.Nat.{◌≤◌, ◌-◌}
 use Rattle.cases_run.proofs.asking.split_arcs.Statement.{statement}
 use Rattle.cases_run.proofs.asking.split_arcs.Tie as tie
 
-pub split-arcs-spec : {M : Type 1} → statement M
-split-arcs-spec =
+pub split_arcs_spec : {M : Type 1} → statement M
+split_arcs_spec =
     tie.close
     (tie.spec
     (λ given tails₀ heads₀ i₀ tails heads i. i ≤ 10)

@@ -50,20 +50,20 @@ use Rattle.rules.specs.declared.PlanAnswer.{PlanAnswer}
 use Rattle.rules.specs.contracts.PlanAnswer as P
 use Rattle.rules.proofs.PlanAnswer.TheLaws as P'
 use Rattle.rules.specs.declared.Link.{Link}
-use Rattle.rules.specs.Answers.{plan-told}
-use Rattle.rules.specs.Promises.{Records-promise}
+use Rattle.rules.specs.Answers.{plan_told}
+use Rattle.rules.specs.Promises.{RecordsPromise}
 use Rattle.rules.specs.contracts.Link as T
 use Rattle.rules.proofs.Link.TheLaws as T'
 use Rattle.records.specs.contracts.plan_records as pr
 use Rattle.records.proofs.plan_records.Symbol as pr-def
 use Rattle.records.proofs.plan_records.Symbol.{name as #records·plan-records}
 use Rattle.records.proofs.plan_records.Met as pr-thm
-use Rattle.cases_run.specs.Unset.{unset-links}
-use Rattle.walks.proofs.LocalArray.{lends-array, array_back, field_is}
-use Rattle.walks.proofs.Calling.{tokens, owned-of, carried, made, Source, Callee, asks, hears, ends}
+use Rattle.cases_run.specs.Unset.{unset_links}
+use Rattle.walks.proofs.LocalArray.{lends_array, array_back, field_is}
+use Rattle.walks.proofs.Calling.{tokens, owned_of, carried, made, Source, Callee, asks, hears, ends}
 use Rattle.walks.proofs.Locals.{get, started, token, owned, final, lender, naming}
 use Rattle.walks.proofs.Signing.{Formal, number, reads, gives, slots, stays, spells, tells, gos}
-use Rattle.walks.proofs.Stepping.{var, arg, data_of, slice-again, lets, lands-in, takes, keeps, copies, lends, regains}
+use Rattle.walks.proofs.Stepping.{var, arg, data_of, slice_again, lets, lands_in, takes, keeps, copies, lends, regains}
 use Rattle.walks.proofs.Stepping.{enters, leaves, word, sized}
 use Rattle.cases_run.specs.contracts.planning.Asked as S
 use Rattle.cases_run.proofs.planning.Asked.TheLaws as S'
@@ -128,10 +128,10 @@ module _ {M : Type 1} {𝓤 : Ura M} (𝓛 : Logic 𝓤) (mem : Memory → SProp
   typed ls v is =
       (Array-Lawful 𝓛 T.the_row (LL.lawful T.the_type T'.the_laws 𝓛) 10).typed ls (v ∷ []) is
 
-  module _ (κt κh κg κw : Lft) (qt qh qg qw : Share) (n : ℕ) (ts hs gs w : MutBor (List ℕ)) (n-fits : n < 2 ^ 64)
-      (ts-fit : Room u16 (length ts.now)) (hs-fit : Room u16 (length hs.now))
-      (gs-fit : Room u16 (length gs.now))
-      (w-fit : Room u16 (length w.now)) where
+  module _ (κt κh κg κw : Lft) (qt qh qg qw : Share) (n : ℕ) (ts hs gs w : MutBor (List ℕ)) (n_fits : n < 2 ^ 64)
+      (ts_fit : Room u16 (length ts.now)) (hs_fit : Room u16 (length hs.now))
+      (gs_fit : Room u16 (length gs.now))
+      (w_fit : Room u16 (length w.now)) where
     -- lifetimes, shares and arguments
     abbrev κs : Lfts 4
     κs = (κt, (κh, (κg, (κw, tt))))
@@ -151,23 +151,23 @@ module _ {M : Type 1} {𝓤 : Ura M} (𝓛 : Logic 𝓤) (mem : Memory → SProp
 
     -- a number for nothing
     abbrev free : Source 𝓛 (usize.own_val n (vint w64 n ∷ []))
-    free = made (uint_Makes 𝓛 w64 n _ (refl, n-fits))
+    free = made (uint_Makes 𝓛 w64 n _ (refl, n_fits))
 
     -- the lent records, which lie at b under the name δ
-    abbrev at-links : ℕ → GName → MutBor (List Link)
-    at-links b δ = record { ref_ptr = (b, 0); ghost_name = δ; now = unset-links }
+    abbrev at_links : ℕ → GName → MutBor (List Link)
+    at_links b δ = record { ref_ptr = (b, 0); ghost_name = δ; now = unset_links }
 
     -- what the triples of the two bind outside
-    abbrev to-unset : Unset.Ghost
-    to-unset = ((tt, tt, tt, tt, tt), tt)
+    abbrev to_unset : Unset.Ghost
+    to_unset = ((tt, tt, tt, tt, tt), tt)
 
-    abbrev to-plan : ℕ → ℕ → GName → Plan.Ghost
-    to-plan b ν δ = (
+    abbrev to_plan : ℕ → ℕ → GName → Plan.Ghost
+    to_plan b ν δ = (
       (
         (κt, (κh, (κg, (ν ∷ [], (κw, tt))))),
         (qt, (qh, (qg, (full_share, (qw, tt))))),
         tt,
-        (n, (ts, (hs, (gs, (at-links b δ, (w, tt)))))),
+        (n, (ts, (hs, (gs, (at_links b δ, (w, tt)))))),
         (
           uint_vals w64 n,
           (mut_slice_vals ts, (mut_slice_vals hs, (mut_slice_vals gs, (slice_val (b, 0) 10 ∷ [], (mut_slice_vals w, tt))))),
@@ -181,29 +181,29 @@ module _ {M : Type 1} {𝓤 : Ura M} (𝓛 : Logic 𝓤) (mem : Memory → SProp
         Triple 𝓤 (C #records·plan-records) Plan →
         ent 𝓤 (on_entry 𝓛 ar.signature κs qs a at)
         (WpFn 𝓤 H C Λ code.function (flat (types_at (slots formals) κs) at) Post)
-    walk C Λ fm known-unset known-plan =
+    walk C Λ fm known_unset known_plan =
         let tails : ℕ = 2 in let heads : ℕ = 3 in let gone : ℕ = 4 in let work : ℕ = 5 in let records : ℕ = 6 in
         let answer : ℕ = 7 in let rest : ℕ = owned 8 in
         enters 𝓛 C Λ code.function locals (flat (types_at (slots formals) κs) at) Post
         (naming (token tails ∷ token heads ∷ token gone ∷ token work ∷ []) (tokens 4 κs qs))
         (naming (rest ∷ owned tails ∷ owned heads ∷ owned gone ∷ owned work ∷ [])
-        (owned-of (types_at (slots formals) κs) a at)) refl
-        (word n n-fits, (sized _ ts-fit.0, (sized _ hs-fit.0, (sized _ gs-fit.0, (sized _ w-fit.0, tt)))))
+        (owned_of (types_at (slots formals) κs) a at)) refl
+        (word n n_fits, (sized _ ts_fit.0, (sized _ hs_fit.0, (sized _ gs_fit.0, (sized _ w_fit.0, tt)))))
         (λ bs.
         let b : ℕ = (get records (started locals bs (flat (types_at (slots formals) κs) at))).1 in
         -- the records before
-        asks 𝓛 un.ended (un.clauses 𝓛 mem run) to-unset tt (id⊢ 𝓤 _) $
-        calls_at ! fm Unset known-unset to-unset (no_more !) (λ u.
-        hears 𝓛 un.ended (un.clauses 𝓛 mem run) to-unset u tt (λ xs ks. xs ≡ unset-links) (λ xs ks. id⊢ 𝓤 _)
+        asks 𝓛 un.ended (un.clauses 𝓛 mem run) to_unset tt (id⊢ 𝓤 _) $
+        calls_at ! fm Unset known_unset to_unset (no_more !) (λ u.
+        hears 𝓛 un.ended (un.clauses 𝓛 mem run) to_unset u tt (λ xs ks. xs ≡ unset_links) (λ xs ks. id⊢ 𝓤 _)
         (λ xs ks e. facts ! Records (Is Records) (shows 𝓛 Records) xs (u ∷ []) (λ some_is.
-        let is : Is Records unset-links (u ∷ []) = subst (λ (l : List Link). Is Records l (u ∷ [])) e some_is in
-        lands-in ! refl tt (typed unset-links u is).0 $
-        lets ! (of_opd ! (var ! refl refl)) refl tt (typed unset-links u is).0 $
+        let is : Is Records unset_links (u ∷ []) = subst (λ (l : List Link). Is Records l (u ∷ [])) e some_is in
+        lands_in ! refl tt (typed unset_links u is).0 $
+        lets ! (of_opd ! (var ! refl refl)) refl tt (typed unset_links u is).0 $
         lets ! (addr ! (from ! (stop !))) refl tt (tt, tt) $
         lets ! (agg ! (arg ! refl refl (and_then ! (lit ! tt) (no_more !)))) refl tt (sized 10 (lit< tt)) $
         -- the work memory, which is handed on
         lets ! (addr ! (data_of ! refl refl)) refl tt (tt, tt) $
-        lets ! (slice-again ! refl refl refl) refl tt (sized _ w-fit.0) $
+        lets ! (slice_again ! refl refl refl) refl tt (sized _ w_fit.0) $
         -- tails, heads and withdrawn zones are kept for the exit
         copies ! (owned tails) (lender tails) refl refl
         ((shr_slice_copy 𝓛 (named 0) κt u16).twice ts (mut_slice_vals ts)) $
@@ -214,33 +214,33 @@ module _ {M : Type 1} {𝓤 : Ura M} (𝓛 : Logic 𝓤) (mem : Memory → SProp
         -- the records are lent for a lifetime ν
         lft_new ! tt (λ ν.
         had ! Records (Is Records) (Array-Makes 𝓛 T.the_row (LL.makes T.the_type T'.the_plain 𝓛) 10)
-        unset-links (u ∷ []) is $ lends ! records refl refl $
+        unset_links (u ∷ []) is $ lends ! records refl refl $
         use2 𝓛
         (later
         (some
         (λ (δ : GName).
-        ‵ ((MutSlice (named 3) (ν ∷ []) T.the_row).own_val (at-links b δ) (slice_val (b, 0) 10 ∷ []))
+        ‵ ((MutSlice (named 3) (ν ∷ []) T.the_row).own_val (at_links b δ) (slice_val (b, 0) 10 ∷ []))
         ⊛ ‵ (flent (ν ∷ []) (Held T.the_row 10 b 0 δ)))))
-        (lends-array 𝓛 T.the_row 10 b tt (named 3) (ν ∷ []) unset-links u room) $ await ! tt $ pick ! (λ δ.
+        (lends_array 𝓛 T.the_row 10 b tt (named 3) (ν ∷ []) unset_links u room) $ await ! tt $ pick ! (λ δ.
         split ! $ keeps ! (owned records ∷ lender records ∷ token records ∷ []) refl $
         takes !
         (token tails ∷ token heads ∷ token gone ∷ token records ∷ token work ∷ owned tails ∷ owned heads ∷ owned gone
         ∷ owned records ∷ owned work ∷ []) refl $
-        asks 𝓛 pr.ended (pr.clauses 𝓛 mem run) (to-plan b ν δ)
+        asks 𝓛 pr.ended (pr.clauses 𝓛 mem run) (to_plan b ν δ)
         (free, (carried, (carried, (carried, (carried, (carried, tt)))))) (id⊢ 𝓤 _) $
-        calls_at ! fm Plan known-plan (to-plan b ν δ)
+        calls_at ! fm Plan known_plan (to_plan b ν δ)
         (arg ! refl refl
         (arg ! refl refl (arg ! refl refl (arg ! refl refl (arg ! refl refl (arg ! refl refl (no_more !))))))) (λ u₁.
-        hears 𝓛 pr.ended (pr.clauses 𝓛 mem run) (to-plan b ν δ) u₁ tt
+        hears 𝓛 pr.ended (pr.clauses 𝓛 mem run) (to_plan b ν δ) u₁ tt
         (λ r ks.
-        Records-promise n ts.now hs.now gs.now unset-links w.now ks.1.1.1.1.0 ks.1.1.1.1.1.0
-        (plan-told r))
+        RecordsPromise n ts.now hs.now gs.now unset_links w.now ks.1.1.1.1.0 ks.1.1.1.1.1.0
+        (plan_told r))
         (λ r ks. id⊢ 𝓤 _) (λ r ks p. let ls : List Link = ks.1.1.1.1.0 in
         keeps !
         (rest ∷ rest ∷ rest ∷ rest ∷ final records ∷ final work ∷ owned answer ∷ token tails ∷ token heads ∷ token gone
         ∷ token records ∷ token work ∷ []) refl $ takes ! (owned answer ∷ []) refl $
         facts ! P.the_row (Is P.the_row) (shows 𝓛 P.the_row) r (u₁ ∷ []) (λ is₁.
-        lands-in ! refl tt ((EL.lawful P.the_type P'.the_laws 𝓛 tt).typed r _ is₁).0 $
+        lands_in ! refl tt ((EL.lawful P.the_type P'.the_laws 𝓛 tt).typed r _ is₁).0 $
         takes ! (final work ∷ []) refl $ fsplit ! $ keeps ! (final work ∷ []) refl $ feq_l ! (λ long.
         -- the records come back
         takes ! (final records ∷ []) refl $ fsplit ! $ keeps ! (final records ∷ []) refl $ drop ! $
@@ -269,13 +269,13 @@ module _ {M : Type 1} {𝓤 : Ura M} (𝓛 : Logic 𝓤) (mem : Memory → SProp
         (vstruct (of_list (u₁ ∷ v ∷ [])) ∷ []) (asked_is r ls u₁ v is₁ is₂)))))))))))))))
 
 module _ {M : Type 1} {𝓤 : Ura M} (𝓛 : Logic 𝓤) (mem : Memory → SProp 𝓤)
-    (run : Routine → Fun 𝓤) (𝓣 : Tables 𝓤 𝓛.H) (known-unset : Triple 𝓤 (𝓣.C #unset) (Unset 𝓛 mem run))
-    (known-plan : Triple 𝓤 (𝓣.C #records·plan-records) (Plan 𝓛 mem run)) where
+    (run : Routine → Fun 𝓤) (𝓣 : Tables 𝓤 𝓛.H) (known_unset : Triple 𝓤 (𝓣.C #unset) (Unset 𝓛 mem run))
+    (known_plan : Triple 𝓤 (𝓣.C #records·plan-records) (Plan 𝓛 mem run)) where
   -- the contract, at the function's MIR: the walk, at every choice of lifetimes, shares and arguments
   open 𝓛 use {H}
 
-  ask-meets : Meets 𝓛 ar.signature (WpFn 𝓤 H 𝓣.C 𝓣.Λ code.function) (ar.spec 𝓛 mem run)
-  ask-meets =
+  ask_meets : Meets 𝓛 ar.signature (WpFn 𝓤 H 𝓣.C 𝓣.Λ code.function) (ar.spec 𝓛 mem run)
+  ask_meets =
       walk_Meets 𝓛 ar.ended (stays formals) (gos 𝓛 formals) (ar.clauses 𝓛 mem run)
       (WpFn 𝓤 H 𝓣.C 𝓣.Λ code.function) (WpFn-mono 𝓤 H 𝓛.laws 𝓣 code.function)
       (walked 𝓛 ar.ended (stays formals) (ar.clauses 𝓛 mem run) (WpFn 𝓤 H 𝓣.C 𝓣.Λ code.function)
@@ -284,16 +284,16 @@ module _ {M : Type 1} {𝓤 : Ura M} (𝓛 : Logic 𝓤) (mem : Memory → SProp
       (walk 𝓛 mem run κs.0 κs.1.0 κs.1.1.0 κs.1.1.1.0 qs.0 qs.1.0 qs.1.1.0
       qs.1.1.1.0 a.0 a.1.0 a.1.1.0 a.1.1.1.0 a.1.1.1.1.0 are.0.1 are.1.0.0.1
       are.1.1.0.0.1 are.1.1.1.0.0.1 are.1.1.1.1.0.0.1 𝓣.C 𝓣.Λ
-      (fm_of 𝓤 H 𝓛.laws 𝓣) known-unset known-plan)))
+      (fm_of 𝓤 H 𝓛.laws 𝓣) known_unset known_plan)))
 
 -- the contract, at the function's own routine
-pub ask-records-spec : {M : Type 1} → stated.statement M
+pub ask_records_spec : {M : Type 1} → stated.statement M
 unfolding code.routine tables_of
-ask-records-spec 𝓤 𝓛 𝓜 𝓡 =
+ask_records_spec 𝓤 𝓛 𝓜 𝓡 =
     entered 𝓤 𝓛.H (triple_of 𝓛 ar.signature (ar.spec 𝓛 𝓜.mem 𝓡.run))
     (tables 𝓤 𝓛.H 𝓜 𝓡 code.env).C (tables 𝓤 𝓛.H 𝓜 𝓡 code.env).Λ #ask-records code.function
     (code.unfolded 𝓤 𝓛.H 𝓜 𝓡)
-    (ask-meets 𝓛 𝓜.mem 𝓡.run (tables_of 𝓤 𝓛.H 𝓜 (tables 𝓤 𝓛.H 𝓜 𝓡 code.env))
+    (ask_meets 𝓛 𝓜.mem 𝓡.run (tables_of 𝓤 𝓛.H 𝓜 (tables 𝓤 𝓛.H 𝓜 𝓡 code.env))
     (cited 𝓤 𝓛.H (Unset 𝓛 𝓜.mem 𝓡.run) 𝓜 𝓡 code.env #unset un-def.routine code.calls-cases-run::planning::unset
     (un-thm.met 𝓤 𝓛 𝓜 𝓡))
     (cited 𝓤 𝓛.H (Plan 𝓛 𝓜.mem 𝓡.run) 𝓜 𝓡 code.env #records·plan-records pr-def.routine

@@ -6,7 +6,7 @@ use lib.ListN.{get_or}
 use borrow.Author.Tests.{le-leb, lt-leb, lt-ltb, le-ltb}
 use borrow.Author.Rules.{rules}
 use Rattle.rules.specs.Number.{number_at}
-use Rattle.filenumbers.specs.Readings.{number-reading}
+use Rattle.filenumbers.specs.Readings.{number_reading}
 use Rattle.filenumbers.proofs.Cursor.number.Statement.{statement}
 use Rattle.filenumbers.proofs.Cursor.number.Tie as tie
 
@@ -15,7 +15,7 @@ number-refused-requires c κs = search rules
 
 returns : tie.Need-returns
 unfolding number_at
-returns c = ap number-reading c.number-refused.ensures ∙ simp (le-leb _ _ c.before.if1.true)
+returns c = ap number_reading c.number-refused.ensures ∙ simp (le-leb _ _ c.before.if1.true)
 
 shared-slice-read-b : tie.Need-shared-slice-read-b
 shared-slice-read-b c = search rules
@@ -27,19 +27,19 @@ add-t13 : tie.Need-overflow-add-t13
 add-t13 c = search rules
 
 -- the byte of the group is below 256
-byte-here : (c : tie.Else2) →
+byte_here : (c : tie.Else2) →
     let a = c.before.before.before.before.args in
     get_or a.s.now a.self.at 0 < 256
-byte-here c = omega (arith, c.before.shared-slice-known2.given c.before.before.before.before.args.self.at)
+byte_here c = omega (arith, c.before.shared-slice-known2.given c.before.before.before.before.args.self.at)
 
 cast-second : tie.Need-overflow-cast-second
-cast-second c = omega (arith, byte-here c)
+cast-second c = omega (arith, byte_here c)
 
 sub-second : tie.Need-overflow-sub-second
 sub-second c = search rules
 
 second-requires : tie.Need-second-requires
-second-requires c κs = (omega (arith, byte-here c), search rules)
+second-requires c κs = (omega (arith, byte_here c), search rules)
 
 returns-2 : tie.Need-returns-2
 unfolding number_at
@@ -59,8 +59,8 @@ returns-3 c =
     let large = le-ltb b 128 (omega (arith, c.before.if2.false)) in
     c.second.ensures ∙ simp (lt-leb _ _ l.if1.false, large)
 
-pub number-spec : {M : Type 1} → statement M
-number-spec =
+pub number_spec : {M : Type 1} → statement M
+number_spec =
     tie.close
     (tie.spec
     number-refused-requires

@@ -4,14 +4,14 @@ use borrow.Author.Rules.{rules}
 use native.Mathlib.Omega.{arith}
 use Prim.Native.Nat.{◌≤◌, ◌<◌, ◌-◌}
 use mathlib.Core.Path.{◌≡◌}
-use Rattle.naming.specs.Names.{Zones-named}
+use Rattle.naming.specs.Names.{ZonesNamed}
 use Rattle.naming.proofs.names.Laws.{named_none, root-some, place, named_more}
 use Rattle.naming.proofs.names.name_zones.Statement.{statement}
 use Rattle.naming.proofs.names.name_zones.Tie as tie
 
 -- what every turn of the loop keeps
 abbrev invariant-loop : tie.invariant-loop
-invariant-loop work₀ zones names low roots v₀ work v = (v ≤ zones) × Zones-named work₀ work zones names low roots v
+invariant-loop work₀ zones names low roots v₀ work v = (v ≤ zones) × ZonesNamed work₀ work zones names low roots v
 
 -- what every turn of the loop makes smaller
 abbrev decreases-loop : tie.decreases-loop
@@ -105,8 +105,8 @@ returns c =
     rw e at l.loop.invariant.1
 
 -- The function meets its contract.
-pub name-zones-spec : {M : Type 1} → statement M
-name-zones-spec =
+pub name_zones_spec : {M : Type 1} → statement M
+name_zones_spec =
     tie.close
     (tie.spec
     invariant-loop

@@ -46,8 +46,8 @@ returns-2 : tie.Need-returns-2
 returns-2 c = inr (c.if1.false, (refl, refl))
 
 -- The function meets its contract.
-pub note-spec : {M : Type 1} → statement M
-note-spec =
+pub note_spec : {M : Type 1} → statement M
+note_spec =
     tie.close
     (tie.spec
     mul-x

@@ -5,14 +5,14 @@ use native.Mathlib.Omega.{arith}
 use Prim.Native.Nat.{◌≤◌, ◌<◌, ◌-◌}
 use mathlib.Core.Path.{◌≡◌}
 use mathlib.Core.Logic.{inl, inr}
-use Rattle.naming.specs.Tops.{Tops-listed}
+use Rattle.naming.specs.Tops.{TopsListed}
 use Rattle.naming.proofs.tops.Laws.{listed-none, places, listed_more}
 use Rattle.naming.proofs.tops.list_names.Statement.{statement}
 use Rattle.naming.proofs.tops.list_names.Tie as tie
 
 -- what every turn of the loop keeps
 abbrev invariant-loop : tie.invariant-loop
-invariant-loop work₀ zones tops names queue m₀ i₀ work m i = (i ≤ zones) × Tops-listed work₀ work zones tops names queue i m
+invariant-loop work₀ zones tops names queue m₀ i₀ work m i = (i ≤ zones) × TopsListed work₀ work zones tops names queue i m
 
 -- what every turn of the loop makes smaller
 abbrev decreases-loop : tie.decreases-loop
@@ -78,8 +78,8 @@ returns c =
     rw e at l.loop.invariant.1
 
 -- The function meets its contract.
-pub list-names-spec : {M : Type 1} → statement M
-list-names-spec =
+pub list_names_spec : {M : Type 1} → statement M
+list_names_spec =
     tie.close
     (tie.spec
     invariant-loop

@@ -7,8 +7,8 @@ use borrow.Author.Rules.{rules}
 use Rattle.netfile_run.proofs.writes.apart.Statement.{statement}
 use Rattle.netfile_run.proofs.writes.apart.Tie as tie
 
-pub apart-spec : {M : Type 1} → statement M
-apart-spec =
+pub apart_spec : {M : Type 1} → statement M
+apart_spec =
     tie.close
     (tie.spec
     (λ list by n₀ i₀ n i. (i ≤ length list) × (n ≤ i))

@@ -4,8 +4,8 @@ use borrow.Author.Rules.{rules}
 use Rattle.netfile_run.proofs.writes.ramp.Statement.{statement}
 use Rattle.netfile_run.proofs.writes.ramp.Tie as tie
 
-pub ramp-spec : {M : Type 1} → statement M
-ramp-spec =
+pub ramp_spec : {M : Type 1} → statement M
+ramp_spec =
     tie.close
     (tie.spec
     (λ by list₀ i₀ list i. i ≤ 4097)

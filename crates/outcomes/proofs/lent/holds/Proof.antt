@@ -4,8 +4,8 @@ use Prim.Native.Nat.{◌≤◌, ◌-◌}
 use Rattle.outcomes.proofs.lent.holds.Statement.{statement}
 use Rattle.outcomes.proofs.lent.holds.Tie as tie
 
-pub holds-spec : {M : Type 1} → statement M
-holds-spec =
+pub holds_spec : {M : Type 1} → statement M
+holds_spec =
     tie.close
     (tie.spec
     (λ list from to x i₀ i. from ≤ i)

@@ -4,8 +4,8 @@ use Prim.Native.Nat.{◌≤◌, ◌-◌}
 use Rattle.outcomes.proofs.lines.links.Statement.{statement}
 use Rattle.outcomes.proofs.lines.links.Tie as tie
 
-pub links-spec : {M : Type 1} → statement M
-links-spec =
+pub links_spec : {M : Type 1} → statement M
+links_spec =
     tie.close
     (tie.spec
     (λ n made i₀ i. i ≤ 10)

@@ -5,8 +5,8 @@ use lib.ListN.{length}
 use Rattle.outcomes.proofs.lines.list.Statement.{statement}
 use Rattle.outcomes.proofs.lines.list.Tie as tie
 
-pub list-spec : {M : Type 1} → statement M
-list-spec =
+pub list_spec : {M : Type 1} → statement M
+list_spec =
     tie.close
     (tie.spec
     (λ xs n i₀ i. i ≤ length xs)

@@ -4,8 +4,8 @@ use Prim.Native.Nat.{◌≤◌, ◌-◌}
 use Rattle.outcomes.proofs.outcome.codes.Statement.{statement}
 use Rattle.outcomes.proofs.outcome.codes.Tie as tie
 
-pub codes-spec : {M : Type 1} → statement M
-codes-spec =
+pub codes_spec : {M : Type 1} → statement M
+codes_spec =
     tie.close
     (tie.spec
     (λ n from to why out₀ i₀ out i. i ≤ 10)
