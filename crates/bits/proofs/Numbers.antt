@@ -1,7 +1,7 @@
 -- Bits of numbers, and of the numbers of a list.
 --   bit_none    no bit of 0 is set
 --   bit_power   2 ^ k has bit k and no other
---   bit_or      bitwise or has the bits of both
+--   bit_of_or   bitwise or has the bits of both
 --   bit_read    how code reads a bit: shift right, keep the lowest
 --   one_shifted how code makes a number with one bit: shift 1 left
 --   bit_stored  after a store that adds one bit to one number of a list, that bit is set, and any other as it was
@@ -46,9 +46,9 @@ lowest x y =
     ∙ larger (x % 2) (y % 2) (mod-lt x (zero-lt-suc 1)) (mod-lt y (zero-lt-suc 1))
 
 -- bitwise or has the bits of both
-pub bit_or : (a b j : ℕ) → bit (bit_or a b) j ≡ (bit a j || bit b j)
+pub bit_of_or : (a b j : ℕ) → bit (bit_or a b) j ≡ (bit a j || bit b j)
 unfolding bit
-bit_or a b j = ap (λ (n : ℕ). eqb (n % 2) 1) (or_shr a b j) ∙ lowest (a / 2 ^ j) (b / 2 ^ j)
+bit_of_or a b j = ap (λ (n : ℕ). eqb (n % 2) 1) (or_shr a b j) ∙ lowest (a / 2 ^ j) (b / 2 ^ j)
 
 -- 2 ^ k has bit k and no other
 bit_power : (k j : ℕ) → bit (2 ^ k) j ≡ eqb j k
@@ -83,7 +83,7 @@ pub bit_stored : (w : List ℕ) (p s q t : ℕ) → p < length w
 bit_stored w p s q t h =
     elim (ℕ_discrete q p) [
       | yes e ↦
-          rw (e, get_or-set_same, bit_or, bit_power, eq-eqb p p refl)
+          rw (e, get_or-set_same, bit_of_or, bit_power, eq-eqb p p refl)
           (or_comm (bit (get_or w p 0) t) (eqb t s))
       | no n ↦ rw (get_or-set_other, ne_eqb q p n)
     ]

@@ -22,7 +22,7 @@ use lib.ListN.{length, get_or, drop, length-set}
 use lib.Seq.{get_or-set_same, get_or-set_other, drop-set-lt}
 use Rattle.theory.proofs.Ground.Bools.{bool_agree, and_true, true_and}
 use Rattle.bits.specs.Bits.{bit, bit_in, with_bit, with_words}
-use Rattle.bits.proofs.Numbers.{bit_or, bit_stored}
+use Rattle.bits.proofs.Numbers.{bit_of_or, bit_stored}
 
 -- a row lies before the end of the table
 pub row_room : (words n a : ℕ) → a < n → a * words + words ≤ n * words
@@ -152,7 +152,7 @@ with_words_bits w words a k c d room h =
           rw (e, eq-eqb a a refl) (
           ap (λ (n : ℕ). bit n (d % 16))
           (with_words_at w (a * words) (k * words) words (d / 16) h room (rows_apart words a k))
-          ∙ bit_or (get_or w (a * words + d / 16) 0) (get_or w (k * words + d / 16) 0) (d % 16)
+          ∙ bit_of_or (get_or w (a * words + d / 16) 0) (get_or w (k * words + d / 16) 0) (d % 16)
           )
       | no ne ↦
           rw (ne_eqb c a ne) (

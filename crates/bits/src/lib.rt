@@ -3,6 +3,8 @@
 //   has_bit   whether a bit is set
 //   set_bit   sets one
 //   join      sets in one row all bits that are set in another
+#![tactic(auto)]
+
 ghost use Rattle.std.specs.Prelude.{◌≡◌, ◌+◌, ◌*◌, ◌/◌, ◌≤◌, ◌<◌, length};
 ghost use Rattle.bits.specs.Bits.{bit_in, with_bit, with_words};
 

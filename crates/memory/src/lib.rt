@@ -1,5 +1,7 @@
 // Lent work memory: an element as an index, and stretches that are cleared, filled, and copied to lower places or out
 // to a lent list.
+#![tactic(auto)]
+
 ghost use Rattle.std.specs.Prelude.{◌≡◌, ◌+◌, ◌≤◌, length, replicate};
 ghost use Rattle.std.proofs.lemmas.List.Edits.{sets};
 ghost use Rattle.rules.specs.Lists.{over, cleared};

@@ -2,6 +2,8 @@
 // count. What changes later lies lower, and the arranged rows, which stay, lie last. A place that two passes use one
 // after the other has a name for each use. No other crate says at which multiple of the zone count a place is: a pass
 // is handed the places that it uses, and asks of them only that they lie apart.
+#![tactic(auto)]
+
 ghost use Rattle.std.specs.Prelude.{◌≡◌, ◌≤◌};
 ghost use Rattle.rules.specs.Calls.{asked_work};
 ghost use Rattle.workmap.specs.Map.{rows_at, turned_at, search_at, back_at, order_at, names_at, kinds_at};

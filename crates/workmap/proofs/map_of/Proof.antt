@@ -5,52 +5,52 @@ use Rattle.workmap.proofs.map_of.Statement.{statement}
 use Rattle.workmap.proofs.map_of.Tie as tie
 
 -- the function's entry, from where the order's places are made
-abbrev entry : tie.After-order-at → tie.Start
+abbrev entry : tie.After-order_at → tie.Start
 entry c = c.before.before.before.before.before.before
 
-asked-work-requires : tie.Need-asked-work-requires
+asked-work-requires : tie.Need-asked_work-requires
 asked-work-requires c κs = search rules
 
-rows-at-requires : tie.Need-rows-at-requires
+rows-at-requires : tie.Need-rows_at-requires
 rows-at-requires c κs = search rules
 
-turned-at-requires : tie.Need-turned-at-requires
+turned-at-requires : tie.Need-turned_at-requires
 turned-at-requires c κs = search rules
 
-search-at-requires : tie.Need-search-at-requires
+search-at-requires : tie.Need-search_at-requires
 search-at-requires c κs = search rules
 
-back-at-requires : tie.Need-back-at-requires
+back-at-requires : tie.Need-back_at-requires
 back-at-requires c κs = search rules
 
-order-at-requires : tie.Need-order-at-requires
+order-at-requires : tie.Need-order_at-requires
 order-at-requires c κs = search rules
 
-names-at-requires : tie.Need-names-at-requires
+names-at-requires : tie.Need-names_at-requires
 names-at-requires c κs = search rules
 
-kinds-at-requires : tie.Need-kinds-at-requires
+kinds-at-requires : tie.Need-kinds_at-requires
 kinds-at-requires c κs = search rules
 
-lists-at-requires : tie.Need-lists-at-requires
+lists-at-requires : tie.Need-lists_at-requires
 lists-at-requires c κs = search rules
 
-pairs-at-requires : tie.Need-pairs-at-requires
+pairs-at-requires : tie.Need-pairs_at-requires
 pairs-at-requires c κs = search rules
 
-links-at-requires : tie.Need-links-at-requires
+links-at-requires : tie.Need-links_at-requires
 links-at-requires c κs = (entry c.before.before.before.before).requires.0
 
-rings-at-requires : tie.Need-rings-at-requires
+rings-at-requires : tie.Need-rings_at-requires
 rings-at-requires c κs = (entry c.before.before.before.before.before).requires.0
 
-places-at-requires : tie.Need-places-at-requires
+places-at-requires : tie.Need-places_at-requires
 places-at-requires c κs = (entry c.before.before.before.before.before.before).requires.0
 
-table-at-requires : tie.Need-table-at-requires
+table-at-requires : tie.Need-table_at-requires
 table-at-requires c κs = (entry c.before.before.before.before.before.before.before).requires.0
 
-rows-at-requires-2 : tie.Need-rows-at-requires-2
+rows-at-requires-2 : tie.Need-rows_at-requires-2
 rows-at-requires-2 c κs = (entry c.before.before.before.before.before.before.before.before).requires.0
 
 returns : tie.Need-returns
@@ -59,21 +59,21 @@ returns c =
     let d = k.before in
     let o = d.before in
     map_parts
-    o.before.before.before.before.before.asked-work.ensures
+    o.before.before.before.before.before.asked_work.ensures
     o.before.before.before.before.rows_at.ensures
-    o.before.before.before.turned-at.ensures
-    o.before.before.search-at.ensures
+    o.before.before.before.turned_at.ensures
+    o.before.before.search_at.ensures
     o.before.back_at.ensures
-    o.order-at.ensures
+    o.order_at.ensures
     d.names_at.ensures
-    k.kinds-at.ensures
+    k.kinds_at.ensures
     c.before.before.before.before.before.before.lists_at.ensures
-    c.before.before.before.before.before.pairs-at.ensures
-    c.before.before.before.before.links-at.ensures
-    c.before.before.before.rings-at.ensures
-    c.before.before.places-at.ensures
+    c.before.before.before.before.before.pairs_at.ensures
+    c.before.before.before.before.links_at.ensures
+    c.before.before.before.rings_at.ensures
+    c.before.before.places_at.ensures
     c.before.table_at.ensures
-    c.rows-at2.ensures
+    c.rows_at-2.ensures
 
 pub map_of_spec : {M : Type 1} → statement M
 map_of_spec =
