@@ -7,7 +7,7 @@ ghost use Rattle.rules.specs.Answers.{trouble_number};
 
 // The kinds of refusal of document 01's table, 1 to 10, and of document 02: 11 of No. 1, 12 to 14 of No. 2. 0 is DONE,
 // and is no refusal.
-#[derive(Drop)]
+#[derive(Clone, Copy)]
 pub enum TroubleKind {
     Short,
     Long,
@@ -48,7 +48,7 @@ pub fn trouble_number(kind: TroubleKind) -> usize
 }
 
 // A refusal: its kind and its place.
-#[derive(Drop)]
+#[derive(Clone, Copy)]
 pub struct Trouble {
     pub kind: TroubleKind,
     pub place: usize,
@@ -90,7 +90,7 @@ pub enum SkeletonAnswer {
 }
 
 // The plan: s, t and q of the network as given, p, and the number of links.
-#[derive(Drop)]
+#[derive(Clone, Copy)]
 pub enum PlanAnswer {
     Done {
         sources: usize,
@@ -103,7 +103,7 @@ pub enum PlanAnswer {
 }
 
 // Why a link is there.
-#[derive(Drop)]
+#[derive(Clone, Copy)]
 pub enum Why {
     Ring,
     Chain,
@@ -111,7 +111,7 @@ pub enum Why {
 }
 
 // A link as a record: from a zone, to a zone, and why.
-#[derive(Drop)]
+#[derive(Clone, Copy)]
 pub struct Link {
     pub from: u16,
     pub to: u16,
