@@ -10,7 +10,7 @@ ghost use Rattle.workmap.specs.Map.{rows_at, turned_at, search_at, back_at, orde
 ghost use Rattle.workmap.specs.Map.{lists_at, pairs_at, links_at, rings_at, places_at, table_at, map_of};
 
 // Rows of heads: how many zones there are, and where the starts of the rows and the rows stand.
-#[derive(Drop)]
+#[derive(Clone, Copy)]
 pub struct RowsAt {
     pub zones: usize,
     pub starts: usize,
@@ -18,14 +18,14 @@ pub struct RowsAt {
 }
 
 // A search: where the marks of the zones stand, and where the zones that are met.
-#[derive(Drop)]
+#[derive(Clone, Copy)]
 pub struct SearchAt {
     pub marks: usize,
     pub queue: usize,
 }
 
 // The finishing order: when each zone was seen, its next place in its row, and the order.
-#[derive(Drop)]
+#[derive(Clone, Copy)]
 pub struct OrderAt {
     pub seen: usize,
     pub next: usize,
@@ -34,7 +34,7 @@ pub struct OrderAt {
 
 // The components: the names in topological order, each zone's name, the lowest zone of each root, the roots, and the
 // queue of the zones by component.
-#[derive(Drop)]
+#[derive(Clone, Copy)]
 pub struct NamesAt {
     pub tops: usize,
     pub names: usize,
@@ -44,7 +44,7 @@ pub struct NamesAt {
 }
 
 // The kinds: each zone's name, and for each name whether its component is entered and whether it is left.
-#[derive(Drop)]
+#[derive(Clone, Copy)]
 pub struct KindsAt {
     pub zones: usize,
     pub names: usize,
@@ -53,7 +53,7 @@ pub struct KindsAt {
 }
 
 // The names of each kind: the sources, the sinks and the components alone.
-#[derive(Drop)]
+#[derive(Clone, Copy)]
 pub struct ListsAt {
     pub sources: usize,
     pub sinks: usize,
@@ -61,7 +61,7 @@ pub struct ListsAt {
 }
 
 // The pairing: the sources of the pairs, their sinks, and the lone sources.
-#[derive(Drop)]
+#[derive(Clone, Copy)]
 pub struct PairsAt {
     pub firsts: usize,
     pub seconds: usize,
@@ -69,7 +69,7 @@ pub struct PairsAt {
 }
 
 // The links: the stations of the chain, and where each link comes from, goes to, and why it is there.
-#[derive(Drop)]
+#[derive(Clone, Copy)]
 pub struct LinksAt {
     pub stations: usize,
     pub from: usize,
@@ -79,7 +79,7 @@ pub struct LinksAt {
 
 // The side on which the plan rule runs, as given or turned round: its rows, the search along them, the names of its
 // kinds, its pairs and its links.
-#[derive(Drop)]
+#[derive(Clone, Copy)]
 pub struct Side {
     pub rows: RowsAt,
     pub search: SearchAt,
@@ -89,7 +89,7 @@ pub struct Side {
 }
 
 // The rings of the components: for each name the lowest zone of its component so far, and each zone's name.
-#[derive(Drop)]
+#[derive(Clone, Copy)]
 pub struct RingsAt {
     pub zones: usize,
     pub last: usize,
@@ -98,7 +98,7 @@ pub struct RingsAt {
 
 // The places of the components in their topological order: the place of each name; the names in that order, and each
 // zone's name; and the names in that order once more, behind the table.
-#[derive(Drop)]
+#[derive(Clone, Copy)]
 pub struct PlacesAt {
     pub zones: usize,
     pub spots: usize,
@@ -109,14 +109,14 @@ pub struct PlacesAt {
 
 // The network of the components, by their places: behind the table of who reaches whom, which is at the front, the
 // names in topological order, and the rows of heads.
-#[derive(Drop)]
+#[derive(Clone, Copy)]
 pub struct TableAt {
     pub tops: usize,
     pub rows: RowsAt,
 }
 
 // Where everything stands in the work memory of a network of so many zones and arcs, and how much of it is asked for.
-#[derive(Drop)]
+#[derive(Clone, Copy)]
 pub struct Map {
     pub zones: usize,
     pub arcs: usize,
