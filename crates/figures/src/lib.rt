@@ -1,4 +1,6 @@
 // The five numbers of a plan, and the answer that carries them.
+#![tactic(auto)]
+
 ghost use Rattle.rules.specs.Network.{Network};
 ghost use Rattle.figures.specs.Figures.{Figures, Carried};
 
