@@ -1,5 +1,7 @@
 // Bytes put into a lent buffer: bytes, numbers, and words with numbers after them. Each function puts one text from a
 // place on, and answers with the place where it stops; every other byte of the buffer stays as it came.
+#![tactic(auto)]
+
 ghost use Rattle.std.specs.Prelude.{◌<◌};
 ghost use Rattle.rules.specs.Text.{decimal};
 ghost use Rattle.buffer.specs.Put.{TextRoom, Written};
