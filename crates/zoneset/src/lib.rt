@@ -4,6 +4,8 @@
 //   fill    the numbers of a list
 //   used    how many of its words have to be looked at
 //   has     whether a number is in the set
+#![tactic(auto)]
+
 ghost use Rattle.std.specs.Prelude.{◌≡◌, false, ℕ, ◌<◌};
 ghost use mathlib.Core.List.{Memᴰ as In};
 ghost use Rattle.rules.specs.Lists.{listed};
