@@ -1,6 +1,8 @@
 // The bytes of a number of a network file, in groups of seven bits, lowest group first.
 //   number_length    how many bytes a number is written as
 //   write_number     the bytes of a number, put into a lent list
+#![tactic(auto)]
+
 ghost use Rattle.std.specs.Prelude.{◌≡◌, ◌+◌, ◌≤◌, ◌<◌, length};
 ghost use Rattle.std.proofs.lemmas.List.Edits.{sets};
 ghost use Rattle.rules.specs.Number.{number_bytes};

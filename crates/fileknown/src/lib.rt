@@ -1,5 +1,7 @@
 // Numbers of a network file that were tested before.
 //   known    the number at a place where a good one of at most two groups stands
+#![tactic(auto)]
+
 ghost use Rattle.std.specs.Prelude.{◌≡◌};
 ghost use Rattle.rules.specs.Number.{got, number_at};
 ghost use Rattle.fileknown.specs.Numbers.{GoodNumber};

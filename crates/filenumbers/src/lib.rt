@@ -2,6 +2,8 @@
 //   Cursor::number    the number at a reading place, or its refusal
 //   number_refused    a refusal, as what reading a number finds
 // LONG and LOOSE are placed at the offending group, which an operator finds with a byte editor.
+#![tactic(auto)]
+
 ghost use Rattle.std.specs.Prelude.{◌≡◌, ◌+◌, ◌<◌, length};
 ghost use Rattle.rules.specs.Number.{number_at, second_group, third_group};
 ghost use Rattle.filenumbers.specs.Readings.{number_reading};
