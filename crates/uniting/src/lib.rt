@@ -2,6 +2,8 @@
 // `turning` tells the method.
 // Row j of the table, eight elements of 16 bits from j * 8 on, has a bit for each of the 128 components of the block.
 // The names of the components, and their rows of heads, which are places too, stand behind the table.
+#![tactic(auto)]
+
 ghost use Rattle.std.specs.Prelude.{◌≡◌, ◌+◌, ◌≤◌, ◌<◌};
 ghost use Rattle.memory.specs.Regions.{cell};
 ghost use Rattle.uniting.specs.Uniting.{row_heads, BlockLaid, united};
@@ -11,7 +13,7 @@ use memory::wide;
 
 // A block: how many components there are, the first of the block, and where the names of all components, the starts of
 // their rows of heads, and these rows stand.
-#[derive(Drop)]
+#[derive(Clone, Copy)]
 pub struct Block {
     pub places: usize,
     pub first: usize,

@@ -1,0 +1,113 @@
+use mathlib.Core.Path.{ap}
+use Prim.Native.Nat.{ℕ, ◌-◌}
+use native.Mathlib.Omega.{arith}
+use Rattle.uniting.proofs.HeadsLeft.{left_up}
+use Rattle.uniting.proofs.Uniting.{Uniting, RowEnds, unite_start, unite_low, unite_rooms}
+use Rattle.uniting.proofs.Uniting.{unite_turn, unite_end}
+use Rattle.uniting.proofs.unite.Goals as goal
+
+pub loop-left-preserved : goal.loop-left-preserved
+loop-left-preserved c =
+    unite_turn c.loop-left.invariant (omega arith) c.wide-k.result c.wide-k.ensures c.join.new.work c.join.ensures
+
+pub returns : goal.returns
+returns c =
+    let ends : (let a = c.args in let to = c.heads_at-to.result in RowEnds a.work.now a.b a.j to (to - c.heads_at.result)) =
+    record {
+      laid = c.requires.block_laid;
+      place = c.requires.j_lt_places;
+      end = c.heads_at-to.ensures;
+      many = ap (λ (n : ℕ). c.heads_at-to.result - n) c.heads_at.ensures;
+    } in
+    let so_far : (let a = c.args in Uniting a.work.now c.loop-left.work a.b a.j c.heads_at-to.result c.loop-left.left) = c.loop-left.invariant.on c.args.b ends in
+    unite_end so_far c.loop-left-test.false
+
+pub loop-left-init : goal.loop-left-init
+loop-left-init c =
+    let a = c.args in
+    unite_start a.work.now a.j c.heads_at-to.result (c.heads_at-to.result - c.heads_at.result)
+
+pub overflow_sub-left : goal.overflow_sub-left
+overflow_sub-left c =
+    left_up c.requires.block_laid c.args.j c.requires.j_lt_places c.heads_at.result c.heads_at-to.result
+    c.heads_at.ensures c.heads_at-to.ensures
+
+pub overflow_sub-to : goal.overflow_sub-to
+overflow_sub-to c =
+    let ends : (let a = c.args in let to = c.heads_at-to.result in RowEnds a.work.now a.b a.j to (to - c.heads_at.result)) =
+    record {
+      laid = c.requires.block_laid;
+      place = c.requires.j_lt_places;
+      end = c.heads_at-to.ensures;
+      many = ap (λ (n : ℕ). c.heads_at-to.result - n) c.heads_at.ensures;
+    } in
+    let so_far : (let a = c.args in Uniting a.work.now c.loop-left.work a.b a.j c.heads_at-to.result c.loop-left.left) = c.loop-left.invariant.on c.args.b ends in
+    omega (arith, so_far.rest.few)
+
+pub offset_bounds-work-to : goal.offset_bounds-work-to
+offset_bounds-work-to c =
+    let ends : (let a = c.args in let to = c.heads_at-to.result in RowEnds a.work.now a.b a.j to (to - c.heads_at.result)) =
+    record {
+      laid = c.requires.block_laid;
+      place = c.requires.j_lt_places;
+      end = c.heads_at-to.ensures;
+      many = ap (λ (n : ℕ). c.heads_at-to.result - n) c.heads_at.ensures;
+    } in
+    let so_far : (let a = c.args in Uniting a.work.now c.loop-left.work a.b a.j c.heads_at-to.result c.loop-left.left) = c.loop-left.invariant.on c.args.b ends in
+    omega (arith, so_far.rest.fits)
+
+pub bounds-work-to : goal.bounds-work-to
+bounds-work-to c =
+    let ends : (let a = c.args in let to = c.heads_at-to.result in RowEnds a.work.now a.b a.j to (to - c.heads_at.result)) =
+    record {
+      laid = c.requires.block_laid;
+      place = c.requires.j_lt_places;
+      end = c.heads_at-to.ensures;
+      many = ap (λ (n : ℕ). c.heads_at-to.result - n) c.heads_at.ensures;
+    } in
+    let so_far : (let a = c.args in Uniting a.work.now c.loop-left.work a.b a.j c.heads_at-to.result c.loop-left.left) = c.loop-left.invariant.on c.args.b ends in
+    let i = so_far in
+    omega (arith, i.rest.few, i.rest.fits, i.long)
+
+pub overflow_mul-j : goal.overflow_mul-j
+overflow_mul-j c = omega (arith, c.requires.j_lt_places, c.requires.block_laid.small)
+
+pub overflow_mul-k : goal.overflow_mul-k
+overflow_mul-k c =
+    let ends : (let a = c.args in let to = c.heads_at-to.result in RowEnds a.work.now a.b a.j to (to - c.heads_at.result)) =
+    record {
+      laid = c.requires.block_laid;
+      place = c.requires.j_lt_places;
+      end = c.heads_at-to.ensures;
+      many = ap (λ (n : ℕ). c.heads_at-to.result - n) c.heads_at.ensures;
+    } in
+    let so_far : (let a = c.args in Uniting a.work.now c.loop-left.work a.b a.j c.heads_at-to.result c.loop-left.left) = c.loop-left.invariant.on c.args.b ends in
+    omega (
+      arith,
+      c.requires.block_laid.small,
+      unite_low c.requires.block_laid c.requires.j_lt_places so_far (omega arith) c.wide-k.result c.wide-k.ensures,
+    )
+
+pub join-requires : goal.join-requires
+join-requires c =
+    let ends : (let a = c.args in let to = c.heads_at-to.result in RowEnds a.work.now a.b a.j to (to - c.heads_at.result)) =
+    record {
+      laid = c.requires.block_laid;
+      place = c.requires.j_lt_places;
+      end = c.heads_at-to.ensures;
+      many = ap (λ (n : ℕ). c.heads_at-to.result - n) c.heads_at.ensures;
+    } in
+    let so_far : (let a = c.args in Uniting a.work.now c.loop-left.work a.b a.j c.heads_at-to.result c.loop-left.left) = c.loop-left.invariant.on c.args.b ends in
+    unite_rooms c.requires.block_laid c.requires.j_lt_places so_far (omega arith) c.wide-k.result c.wide-k.ensures
+
+pub shape_of-work : goal.shape_of-work
+shape_of-work c =
+    let ends : (let a = c.args in let to = c.heads_at-to.result in RowEnds a.work.now a.b a.j to (to - c.heads_at.result)) =
+    record {
+      laid = c.requires.block_laid;
+      place = c.requires.j_lt_places;
+      end = c.heads_at-to.ensures;
+      many = ap (λ (n : ℕ). c.heads_at-to.result - n) c.heads_at.ensures;
+    } in
+    let so_far : (let a = c.args in Uniting a.work.now c.loop-left.work a.b a.j c.heads_at-to.result c.loop-left.left) = c.loop-left.invariant.on c.args.b ends in
+    so_far.long
