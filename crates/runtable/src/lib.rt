@@ -1,7 +1,10 @@
 // A table of runs is a text. A row of it is a label, a colon, numbers with a space before each, and a semicolon.
-ghost use Rattle.std.specs.Prelude.{◌≤◌, ◌<◌, length};
+#![tactic(auto)]
+
+ghost use Rattle.std.specs.Prelude.{◌≤◌, ◌<◌, ◌≡◌, length, IfOk, OnErr};
 
 use printing::put;
+use std::io;
 
 // The lesser of two numbers.
 pub fn least(a: usize, b: usize) -> usize
@@ -36,19 +39,19 @@ fn add(given: &mut [u16], k: usize, byte: u8) {
 }
 
 // Prints the label that starts at `from`, and answers where it ends.
-fn label(text: &[u8], from: usize) -> usize
+fn label(rt: &impl Print, text: &[u8], from: usize) -> io::Result<usize>
     requires { from ≤ length text.now }
-    ensures { (from ≤ result) × (result ≤ length text.now) }
+    ensures { IfOk result (λ end. (from ≤ end) × (end ≤ length text.now)) }
 {
     let mut i = from;
     while i < text.len() {
         if text[i] == b':' {
-            return i;
+            return Ok(i);
         }
-        put(text[i]);
+        put(rt, text[i])?;
         i += 1;
     }
-    i
+    Ok(i)
 }
 
 // Puts the numbers that start at `from` into a list of zeros, from index 1 on, and answers where the next row starts.
@@ -70,12 +73,13 @@ fn numbers(text: &[u8], from: usize, given: &mut [u16]) -> usize
 }
 
 // Prints the label of the row that starts at `from`, puts its numbers into a list of zeros, from index 1 on, and
-// answers where the next row starts.
-pub fn row(text: &[u8], from: usize, given: &mut [u16]) -> usize
+// answers where the next row starts. Where the label can't be printed, the list is as it came.
+pub fn row(rt: &impl Print, text: &[u8], from: usize, given: &mut [u16]) -> io::Result<usize>
     requires { from < length text.now }
-    ensures { from < result }
+    ensures next { IfOk result (λ next. from < next) }
+    ensures err { OnErr result (given.new ≡ given.old) }
 {
-    numbers(text, label(text, from), given)
+    Ok(numbers(text, label(rt, text, from)?, given))
 }
 
 // The number of index k, and 0 past the end.
