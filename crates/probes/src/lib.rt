@@ -1,5 +1,7 @@
 // The single tests of a call. Each function takes what the tests before it found and hands it on, or else what its own
 // tests find, so that a call is tested by a chain of them (crates `intake` and `admission`). A new test is a line here.
+#![tactic(auto)]
+
 ghost use Rattle.std.specs.Prelude.{◌≡◌, [], ◌∷◌, ◌||◌};
 ghost use Rattle.rules.specs.Network.{◌⟶◌};
 ghost use Rattle.rules.specs.File.{zones_bad};
