@@ -1,6 +1,8 @@
 // The parts of linkplan's text that are words and numbers alone, written into a lent buffer of bytes: the lines above
 // the links, and the line of a refusal. Each function puts one text from a place on, and answers with the place where
 // it stops; every other byte of the buffer stays as it came.
+#![tactic(auto)]
+
 ghost use Rattle.std.specs.Prelude.{◌+◌, ◌≤◌, length};
 ghost use Rattle.rules.specs.Text.{refusal_line};
 ghost use Rattle.buffer.specs.Put.{TextRoom, Written};
