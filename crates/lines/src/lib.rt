@@ -1,4 +1,6 @@
 // The lines of links, put into a lent buffer of bytes: from, to and why of each.
+#![tactic(auto)]
+
 ghost use Rattle.std.specs.Prelude.{◌≤◌, length};
 ghost use Rattle.buffer.specs.Put.{TextRoom, Written};
 ghost use Rattle.lines.specs.Lines.{why_text, line, lines_of};
