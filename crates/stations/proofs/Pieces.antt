@@ -105,7 +105,7 @@ module _ (w : List ℕ) (n : Counts) (p : Side) (P : ListsApart w n p) where
   pub as_many : length (part w p.pairs.firsts n.pairs) ≡ length (part w p.pairs.seconds n.pairs)
   as_many =
       part_long w p.pairs.firsts n.pairs (omega (arith, P.v_fits, P.why_fits))
-      ∙ sym (part_long w p.pairs.seconds n.pairs (omega (arith, P.w_Fits, P.why_fits)))
+      ∙ sym (part_long w p.pairs.seconds n.pairs (omega (arith, P.w_fits, P.why_fits)))
 
   -- the four pieces together are the stations
   stations_pieces : ((last_part ++ surplus_part) ++ alone_part) ++ first_part ≡ stations_in w n p
@@ -114,7 +114,7 @@ module _ (w : List ℕ) (n : Counts) (p : Side) (P : ListsApart w n p) where
       let vs : List ℕ = part w p.pairs.firsts n.pairs in
       let ws : List ℕ = part w p.pairs.seconds n.pairs in
       let long : length ws ≡ n.pairs = part_long w p.pairs.seconds n.pairs
-      (omega (arith, P.w_Fits, P.why_fits)) in
+      (omega (arith, P.w_fits, P.why_fits)) in
       let lone : length (part w p.pairs.lone n.sources) ≡ n.sources =
       part_long w p.pairs.lone n.sources (omega (arith, P.sources_fit, P.why_fits))
       in
@@ -138,7 +138,7 @@ module _ (w : List ℕ) (n : Counts) (p : Side) (P : ListsApart w n p) where
   last_long : length last_part ≡ min 1 n.pairs
   last_long =
       part_long w (p.pairs.seconds + (n.pairs - min 1 n.pairs)) (min 1 n.pairs)
-      (omega (arith, P.w_Fits, P.why_fits))
+      (omega (arith, P.w_fits, P.why_fits))
 
   -- the length of the surplus sinks
   surplus_long : length surplus_part ≡ n.sinks - n.sources

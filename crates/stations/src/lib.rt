@@ -1,4 +1,6 @@
 // The stations of an ordering's chain, put into lent work memory. The ordering's lists stand there too.
+#![tactic(auto)]
+
 ghost use Rattle.std.specs.Prelude.{◌≡◌, min};
 ghost use Rattle.stations.specs.Stations.{first_at, ListsApart, Stationed};
 
@@ -6,7 +8,7 @@ use memory::copy;
 use workmap::Side;
 
 // How many elements each list has: the pairs' sources and sinks, the lone sources, the lone sinks, the zones alone.
-#[derive(Drop)]
+#[derive(Clone, Copy)]
 pub struct Counts {
     pub pairs: usize,
     pub sources: usize,
