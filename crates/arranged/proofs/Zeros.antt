@@ -39,9 +39,9 @@ zeros_mark w at (suc n) v x ne h fits e =
     last : v ≡ n → suc (zeros (set w (at + v) x) at (suc n)) ≡ zeros w at (suc n)
     last q =
         let clear : get_or w (at + n) 0 ≡ 0 = ap (λ (k : ℕ). get_or w (at + k) 0) (sym q) ∙ e in
-        let stored : get_or (set w (at + n) x) (at + n) 0 ≡ x = get_or-set_same w (at + n) x 0 (omega arith) in
-        let rest : zeros (set w (at + n) x) at n ≡ zeros w at n = zeros_other w (at + n) x at n (inr (omega arith)) in
-        rw (q, clear, stored, rest, ne_eqb x 0 ne) (omega arith)
+        let stored : get_or (set w (at + v) x) (at + n) 0 ≡ x = rw q (get_or-set_same w (at + n) x 0 (omega arith)) in
+        let rest : zeros (set w (at + v) x) at n ≡ zeros w at n = zeros_other w (at + v) x at n (inr (omega arith)) in
+        rw (clear, stored, rest, ne_eqb x 0 ne) (omega arith)
 
     earlier : v < n → suc (zeros (set w (at + v) x) at n) ≡ zeros w at n
         → suc (zeros (set w (at + v) x) at (suc n)) ≡ zeros w at (suc n)
