@@ -2,6 +2,8 @@
 // link as a record.
 // No algorithm is here. specs/ has document 01's rules as definitions that compute, and specs/Answers.antt sets out
 // the document's number, place and values for every case of every answer.
+#![tactic(auto)]
+
 ghost use Rattle.std.specs.Prelude.{◌≡◌};
 ghost use Rattle.rules.specs.Answers.{trouble_number};
 

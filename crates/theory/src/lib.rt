@@ -1,1 +1,2 @@
 // No code: every theorem about the definitions of `rules` stands in proofs/.
+#![tactic(auto)]
