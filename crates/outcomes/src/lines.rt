@@ -1,162 +1,165 @@
 // What the program prints.
-ghost use Rattle.std.specs.Prelude.{◌≤◌, ◌<◌};
+ghost use Rattle.std.specs.Prelude.{◌≤◌, ◌<◌, IfOk};
 
 use super::outcome;
 use super::outcome::Outcome;
 use printing::{decimal, put};
+use std::io;
 
 // A text.
-fn say(text: &[u8]) {
-    io::write_all(1, text);
+fn say(rt: &impl Print, text: &[u8]) -> io::Result<()> {
+    rt.write_all(text)
 }
 
 // A row's letter, or its place in the table where it has none.
-fn label(i: usize, letter: u16)
+fn label(rt: &impl Print, i: usize, letter: u16) -> io::Result<()>
     requires { i < 40 }
 {
     if letter == 45 {
-        decimal(i + 1);
+        decimal(rt, i + 1)
     } else {
-        put((letter % 256) as u8);
+        put(rt, (letter % 256) as u8)
     }
 }
 
 // A number of 16 bits.
-fn small(n: u16) {
-    decimal(n as usize);
+fn small(rt: &impl Print, n: u16) -> io::Result<()> {
+    decimal(rt, n as usize)
 }
 
 // The first n numbers, each after a space.
-fn list(xs: &[u16], n: usize) {
+fn list(rt: &impl Print, xs: &[u16], n: usize) -> io::Result<()> {
     let mut i = 0;
     while i < xs.len() {
         if n <= i {
-            return;
+            return Ok(());
         }
-        put(b' ');
-        small(xs[i]);
+        put(rt, b' ')?;
+        small(rt, xs[i])?;
         i += 1;
     }
+    Ok(())
 }
 
 // Why a link is there.
-fn why(k: u16) {
+fn why(rt: &impl Print, k: u16) -> io::Result<()> {
     match k {
-        0 => say(b" ring"),
-        1 => say(b" chain"),
-        2 => say(b" back"),
-        _ => say(b" unknown"),
+        0 => say(rt, b" ring"),
+        1 => say(rt, b" chain"),
+        2 => say(rt, b" back"),
+        _ => say(rt, b" unknown"),
     }
 }
 
 // A link that is one number.
-fn link(x: u16) {
-    put(b' ');
-    small(x / 16 % 16);
-    put(b'-');
-    small(x % 16);
-    why(x / 256);
-    put(b',');
+fn link(rt: &impl Print, x: u16) -> io::Result<()> {
+    put(rt, b' ')?;
+    small(rt, x / 16 % 16)?;
+    put(rt, b'-')?;
+    small(rt, x % 16)?;
+    why(rt, x / 256)?;
+    put(rt, b',')
 }
 
 // The first n links.
-fn links(made: [u16; 10], n: usize) {
+fn links(rt: &impl Print, made: [u16; 10], n: usize) -> io::Result<()> {
     let mut i = 0;
     while i < 10 {
         if n <= i {
-            return;
+            return Ok(());
         }
-        link(made[i]);
+        link(rt, made[i])?;
         i += 1;
     }
+    Ok(())
 }
 
 // A plan: s, t, q, p and the number of links, and the links.
-fn show_plan(told: [u16; 5], made: [u16; 10], count: usize) {
-    list(&told, 5);
-    put(b':');
+fn show_plan(rt: &impl Print, told: [u16; 5], made: [u16; 10], count: usize) -> io::Result<()> {
+    list(rt, &told, 5)?;
+    put(rt, b':')?;
     if count == 0 {
-        say(b" no links,");
-        return;
+        return say(rt, b" no links,");
     }
-    links(made, count);
+    links(rt, made, count)
 }
 
 // A skeleton: its arc count, and the bytes of its file.
-fn show_skeleton(told: [u16; 5], made: [u16; 10], count: usize) {
-    list(&told, 1);
-    put(b':');
-    list(&made, count);
-    put(b',');
+fn show_skeleton(rt: &impl Print, told: [u16; 5], made: [u16; 10], count: usize) -> io::Result<()> {
+    list(rt, &told, 1)?;
+    put(rt, b':')?;
+    list(rt, &made, count)?;
+    put(rt, b',')
 }
 
 // A refusal: its number and its place.
-fn show_refusal(told: [u16; 5]) {
-    say(b" refused ");
-    small(told[0]);
-    say(b" at ");
-    small(told[1]);
-    put(b',');
+fn show_refusal(rt: &impl Print, told: [u16; 5]) -> io::Result<()> {
+    say(rt, b" refused ")?;
+    small(rt, told[0])?;
+    say(rt, b" at ")?;
+    small(rt, told[1])?;
+    put(rt, b',')
 }
 
 // A question: the two zones, and the answer or the refusal.
-fn show_question(told: [u16; 5], made: [u16; 10]) {
-    list(&made, 2);
-    put(b':');
+fn show_question(rt: &impl Print, told: [u16; 5], made: [u16; 10]) -> io::Result<()> {
+    list(rt, &made, 2)?;
+    put(rt, b':')?;
     if told[0] != 0 {
-        show_refusal(told);
-        return;
+        return show_refusal(rt, told);
     }
     if told[2] == 1 {
-        say(b" yes,");
-        return;
+        return say(rt, b" yes,");
     }
-    say(b" no,");
+    say(rt, b" no,")
 }
 
 // What came out.
-fn show(o: Outcome) {
+fn show(rt: &impl Print, o: Outcome) -> io::Result<()> {
     let told = o.told;
     let made = o.made;
     if o.came == 0 {
-        show_plan(told, made, o.count);
-        return;
+        return show_plan(rt, told, made, o.count);
     }
     if o.came == 1 {
-        show_skeleton(told, made, o.count);
-        return;
+        return show_skeleton(rt, told, made, o.count);
     }
     if o.came == 2 {
-        show_refusal(told);
-        return;
+        return show_refusal(rt, told);
     }
     if o.came == 4 {
-        show_question(told, made);
-        return;
+        return show_question(rt, told, made);
     }
-    say(b" accepted,");
+    say(rt, b" accepted,")
 }
 
 // Prints a line, and answers 1 where the outcome differs from the row.
-pub fn line(i: usize, call: &[u8], head: [u16; 10], made: [u16; 10], o: Outcome) -> usize
+pub fn line(
+    rt: &impl Print,
+    i: usize,
+    call: &[u8],
+    head: [u16; 10],
+    made: [u16; 10],
+    o: Outcome,
+) -> io::Result<usize>
     requires { i < 40 }
-    ensures { result ≤ 1 }
+    ensures { IfOk result (λ differs. differs ≤ 1) }
 {
-    label(i, head[0]);
-    say(call);
-    show(o);
+    label(rt, i, head[0])?;
+    say(rt, call)?;
+    show(rt, o)?;
     if outcome::wanted(o, head, made) {
-        say(b" as the table has it\n");
-        return 0;
+        say(rt, b" as the table has it\n")?;
+        return Ok(0);
     }
-    say(b" differs\n");
-    1
+    say(rt, b" differs\n")?;
+    Ok(1)
 }
 
 // The last line.
-pub fn total(answers: usize, differ: usize) {
-    decimal(answers);
-    say(b" answers, ");
-    decimal(differ);
-    say(b" differ\n");
+pub fn total(rt: &impl Print, answers: usize, differ: usize) -> io::Result<()> {
+    decimal(rt, answers)?;
+    say(rt, b" answers, ")?;
+    decimal(rt, differ)?;
+    say(rt, b" differ\n")
 }

@@ -6,7 +6,7 @@ use rules::{PlanAnswer, ReachAnswer, Trouble, trouble_number};
 // An outcome: what came, as a row says what is asked for (0 a plan, 1 a skeleton, 2 a refusal, 4 an answered question),
 // or 3, a network that was read, which no row wants; the answer's numbers; how many links or bytes were put, or zones
 // asked about; those, each as one number, and zeros after them; and whether all other lent memory is as it has to be.
-#[derive(Drop)]
+#[derive(Clone, Copy)]
 pub struct Outcome {
     pub came: u16,
     pub told: [u16; 5],
