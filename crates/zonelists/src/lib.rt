@@ -1,5 +1,7 @@
 // The test of a list of zone numbers: each below the zone count, and above the one before. One walk, which carries the
 // lowest number that may come next.
+#![tactic(auto)]
+
 ghost use Rattle.rules.specs.Calls.{list_tests};
 ghost use Rattle.probes.specs.Tested.{FoundAfter};
 
