@@ -1,5 +1,7 @@
 // An arc of a network file: its tail and its head.
 //   arc    the arc at a reading place, or its refusal
+#![tactic(auto)]
+
 ghost use Rattle.std.specs.Prelude.{◌≡◌};
 ghost use Rattle.rules.specs.File.{zone_at, arc_at};
 ghost use Rattle.filenumbers.specs.Readings.{number_reading};

@@ -1,6 +1,8 @@
 // The two counts of a network file, each tested against its bounds.
 //   zone_count    the zone count, which stands first: 1 to 1,024
 //   arc_count     the arc count: 0 to 4,096, and no more than the two lent lists have room for
+#![tactic(auto)]
+
 ghost use Rattle.std.specs.Prelude.{◌≡◌};
 ghost use Rattle.filenumbers.specs.Readings.{number_reading};
 ghost use Rattle.filecounts.specs.Counts.{number_within, zones_at, count_at};

@@ -1,6 +1,8 @@
 // A quick look at an arc of a network file. Whatever is not plainly good is left to whoever looks closer.
 //   quick_number    the number at a place, taken to have at most two groups
 //   quick_arc       the place after an arc that is plainly good
+#![tactic(auto)]
+
 ghost use Rattle.std.specs.Prelude.{◌+◌, ◌≤◌, ◌<◌, length};
 ghost use Rattle.rules.specs.File.{arc_at};
 ghost use Rattle.filelook.specs.Looks.{NumberSeen, ArcSeen};

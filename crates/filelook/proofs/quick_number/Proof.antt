@@ -8,60 +8,60 @@ use Rattle.filelook.proofs.quick_number.Statement.{statement}
 use Rattle.filelook.proofs.quick_number.Tie as tie
 
 -- the function's entry, from where the second byte was read
-abbrev entry : tie.After-shared-slice-known2 → tie.Start
+abbrev entry : tie.After-shared_slice_known-2-1 → tie.Start
 entry c = c.before.before.before
 
 -- the two bytes are below 256
-two_bytes : (c : tie.After-shared-slice-known2) →
+two_bytes : (c : tie.After-shared_slice_known-2-1) →
     let a = (entry c).args in
     (get_or a.s.now a.at 0 < 256) × (get_or a.s.now (a.at + 1) 0 < 256)
 two_bytes c =
     let a = (entry c).args in
-    let known = c.shared-slice-known2.given in
+    let known = c.shared_slice_known-2-1.given in
     (omega (arith, known a.at), omega (arith, known (a.at + 1)))
 
-returns : tie.Need-returns
+returns : tie.Need-returns-then-b-lt128
 returns c =
     let a = c.before.before.args in
-    record { near = search rules; plain = plain_one a.s.now a.at (search rules) c.if1.true }
+    record { near = search rules; plain = plain_one a.s.now a.at (search rules) c.if-b-lt128.true }
 
-returns-2 : tie.Need-returns-2
+returns-2 : tie.Need-returns
 returns-2 c =
     let a = (entry c).args in
-    let plain = plain_two a.s.now a.at (entry c).requires c.before.if1.false (two_bytes c).1 in
+    let plain = plain_two a.s.now a.at (entry c).requires c.before.if-b-lt128.false (two_bytes c).1 in
     record { near = search rules; plain = plain }
 
-shared-slice-read-b : tie.Need-shared-slice-read-b
+shared-slice-read-b : tie.Need-bounds-s-at
 shared-slice-read-b c = search rules
 
-cast-t8 : tie.Need-overflow-cast-t8
+cast-t8 : tie.Need-overflow_cast-result
 cast-t8 c = search rules
 
-add-t9 : tie.Need-overflow-add-t9
+add-t9 : tie.Need-overflow_add-result
 add-t9 c = search rules
 
-add-c : tie.Need-overflow-add-c
+add-c : tie.Need-overflow_add-c
 add-c c = search rules
 
-shared-slice-read-c : tie.Need-shared-slice-read-c
+shared-slice-read-c : tie.Need-bounds-s-at-2
 shared-slice-read-c c = search rules
 
-cast-t10 : tie.Need-overflow-cast-t10
+cast-t10 : tie.Need-overflow_cast-result-2
 cast-t10 c = omega (arith, two_bytes c)
 
-cast-t12 : tie.Need-overflow-cast-t12
+cast-t12 : tie.Need-overflow_cast-result-3
 cast-t12 c = omega (arith, two_bytes c)
 
-add-t13 : tie.Need-overflow-add-t13
+add-t13 : tie.Need-overflow_add-result-2
 add-t13 c = omega (arith, two_bytes c)
 
-mul-t15 : tie.Need-overflow-mul-t15
+mul-t15 : tie.Need-overflow_mul-result
 mul-t15 c = omega (arith, around_small (get_or (entry c).args.s.now ((entry c).args.at + 1) 0))
 
-add-t16 : tie.Need-overflow-add-t16
+add-t16 : tie.Need-overflow_add-result-3
 add-t16 c = omega (arith, two_bytes c, around_small (get_or (entry c).args.s.now ((entry c).args.at + 1) 0))
 
-add-t17 : tie.Need-overflow-add-t17
+add-t17 : tie.Need-overflow_add-result-4
 add-t17 c = search rules
 
 pub quick_number_spec : {M : Type 1} → statement M
