@@ -1,4 +1,6 @@
 // The links of a plan that stands in lent work memory, in three columns, handed out to three lent lists.
+#![tactic(auto)]
+
 ghost use Rattle.handout.specs.Handout.{Handable, HandedOut};
 
 use memory::copy_out;
