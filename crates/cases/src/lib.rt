@@ -2,6 +2,8 @@
 // with withdrawn zones, as rows of one constant array. `rules` has the same table as definitions, with the one test
 // that is computed over all its rows and the statement that every row is right (specs/Cases.antt). Here each row of
 // the array is shown to be that row.
+#![tactic(auto)]
+
 ghost use Rattle.std.specs.Prelude.{◌≡◌, [], map, ◌<◌, get_or};
 ghost use Rattle.rules.specs.Cases.{rows, row_numbers};
 
