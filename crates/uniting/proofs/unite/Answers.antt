@@ -67,7 +67,7 @@ overflow_mul-k c =
 pub join-requires : goal.join-requires
 join-requires c =
     unite_rooms c.requires.block_laid c.requires.j_lt_places (so_far (goal.at.join-requires c).At-loop-left)
-        (omega arith) c.wide-k.result c.wide-k.ensures
+    (omega arith) c.wide-k.result c.wide-k.ensures
 
 pub shape_of-work : goal.shape_of-work
 shape_of-work c = (so_far (goal.at.shape_of-work c).At-loop-left).long
