@@ -4,6 +4,8 @@
 //     rows, at      where the rows stand, and where the marks and the queue
 //     x             the mark that is given, not 0
 //     top, tail     how many zones the queue holds, before the search and now
+#![tactic(auto)]
+
 ghost use Rattle.search.specs.Marking.{Visitable, Visited, Underway, Drained};
 ghost use Rattle.search.specs.Marking.{Spreadable, Spread, Searchable, Searched};
 
