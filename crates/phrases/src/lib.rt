@@ -12,7 +12,7 @@ use buffer::{put_bytes, put_labelled, put_two};
 use rules::{Trouble, trouble_number};
 
 // The numbers above the links: zone and arc counts; sources, sinks, alone and pairs; the number of links.
-#[derive(Drop)]
+#[derive(Clone, Copy)]
 pub struct Figures {
     pub zones: usize,
     pub arcs: usize,
