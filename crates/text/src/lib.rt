@@ -1,5 +1,7 @@
 // linkplan's text, written into a lent buffer of bytes. Each function puts one text from a place on, and answers with
 // the place where it stops; every other byte of the buffer stays as it came.
+#![tactic(auto)]
+
 ghost use Rattle.std.specs.Prelude.{◌+◌, ◌*◌, ◌≤◌, length};
 ghost use Rattle.buffer.specs.Put.{Written};
 ghost use Rattle.lines.specs.Lines.{lines_of};
@@ -13,7 +15,7 @@ use rules::PlanAnswer;
 // Puts all lines of a plan, the line "done" last.
 fn say_plan(out: &mut [u8], at: usize, f: Figures, from: &[u16], to: &[u16], why: &[u16]) -> usize
     requires need_in_bounds { (f.need ≤ length from.now) × ((f.need ≤ length to.now) × (f.need ≤ length why.now)) }
-    requires need_in_bounds_2 { at + 200 + 18 * f.need ≤ length out.old }
+    requires text_room { at + 200 + 18 * f.need ≤ length out.old }
     ensures { Written out.old at
         (plan_text f (lines_of from.now to.now why.now f.need))
         result out.new }
