@@ -129,7 +129,7 @@ module _ (w : List ℕ) (n : Counts) (p : Side) (L : Linkable w n p) where
       Joinable u p.links a b k at
   joinable u a b k at long few A B =
       let s : p.links.from + p.rows.zones ≤ p.links.stations = L.start_before in
-      let e : p.links.to + p.rows.zones ≤ p.links.stations = L.end_Before in
+      let e : p.links.to + p.rows.zones ≤ p.links.stations = L.end_before in
       let y : p.links.why + p.rows.zones ≤ length w = L.placed.why_fits in
       record {
         start_a = omega (arith, A.low);
@@ -174,7 +174,7 @@ module _ (w : List ℕ) (n : Counts) (p : Side) (L : Linkable w n p) where
       start_fits = omega (arith, W.long, L.start_before, between, L.placed.why_fits)
 
       end_fits : p.links.to + (length ls + length ms) ≤ length one
-      end_fits = omega (arith, W.long, one_long, L.end_Before, between, L.placed.why_fits)
+      end_fits = omega (arith, W.long, one_long, L.end_before, between, L.placed.why_fits)
 
       why_fits : p.links.why + (length ls + length ms) ≤ length two
       why_fits = omega (arith, W.long, two_long, L.placed.why_fits)
@@ -188,7 +188,7 @@ module _ (w : List ℕ) (n : Counts) (p : Side) (L : Linkable w n p) where
       start_low = omega (arith, L.start_before, between)
 
       end_low : p.links.to + p.rows.zones ≤ p.links.why
-      end_low = omega (arith, L.end_Before, between)
+      end_low = omega (arith, L.end_before, between)
 
       -- the starts are put first
       start_put : Holds three p.links.from (starts (ls ++ ms))
@@ -224,7 +224,7 @@ module _ (w : List ℕ) (n : Counts) (p : Side) (L : Linkable w n p) where
       inner_put at m I =
           part_sets two (p.links.why + length ls) (whys ms) at m (inl (omega (arith, I.high)))
           ∙ part_sets one (p.links.to + length ls) (ends ms) at m
-          (inr (omega (arith, I.low, L.end_Before, length-map ms end_of)))
+          (inr (omega (arith, I.low, L.end_before, length-map ms end_of)))
           ∙ part_sets u (p.links.from + length ls) (starts ms) at m
           (inr (omega (arith, I.low, L.start_before, length-map ms start_of)))
           ∙ W.inner at m I

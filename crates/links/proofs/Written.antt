@@ -62,7 +62,7 @@ module _
     held : part w' p.links.stations m ≡ stations_in w n p
     held =
         let fits : p.links.stations + length (stations_in w n p) ≤ length w =
-        omega (arith, room, S.count, P.w_apart, P.w_Fits, P.why_fits)
+        omega (arith, room, S.count, P.w_apart, P.w_fits, P.why_fits)
         in
         ap (λ (k : ℕ). part w' p.links.stations k) S.count
         ∙ ap (λ (l : List ℕ). part l p.links.stations (length (stations_in w n p))) S.is
@@ -75,7 +75,7 @@ module _
         let vs : List ℕ = part w p.pairs.firsts n.pairs in
         let ws : List ℕ = part w p.pairs.seconds n.pairs in
         let long : length ws ≡ n.pairs = part_long w p.pairs.seconds n.pairs
-        (omega (arith, P.w_Fits, P.why_fits)) in
+        (omega (arith, P.w_fits, P.why_fits)) in
         let from : part w' p.pairs.seconds (n.pairs - 1) ≡ take (length ws - 1) ws =
         kept p.pairs.seconds (n.pairs - 1) P.w_apart ∙ sym
         (part_take w p.pairs.seconds (n.pairs - 1) n.pairs (omega arith))
@@ -89,7 +89,7 @@ module _
         (row_joins w' p.pairs.seconds (p.pairs.firsts + 1) (n.pairs - 1) ring (take (length ws - 1) ws)
         (drop 1 vs) from to
         (ap length (sym from)
-        ∙ part_long w' p.pairs.seconds (n.pairs - 1) (omega (arith, P.w_Fits, P.why_fits, memory_long)))
+        ∙ part_long w' p.pairs.seconds (n.pairs - 1) (omega (arith, P.w_fits, P.why_fits, memory_long)))
         (ap length (sym to)
         ∙ part_long w' (p.pairs.firsts + 1) (n.pairs - 1) (omega (arith, P.v_fits, P.why_fits, memory_long))))
 
@@ -110,10 +110,10 @@ module _
         (drop 1 xs) from to
         (ap length (sym from)
         ∙ part_long w' p.links.stations (m - 1)
-        (omega (arith, room, P.w_apart, P.w_Fits, P.why_fits, memory_long)))
+        (omega (arith, room, P.w_apart, P.w_fits, P.why_fits, memory_long)))
         (ap length (sym to)
         ∙ part_long w' (p.links.stations + 1) (m - 1)
-        (omega (arith, room, P.w_apart, P.w_Fits, P.why_fits, memory_long))))
+        (omega (arith, room, P.w_apart, P.w_fits, P.why_fits, memory_long))))
 
     -- the links back
     back_row : RowOf w' p.lists.sinks p.pairs.lone n.sources 2
@@ -147,13 +147,13 @@ module _
 
     -- where the rows' elements lie
     stations_inside : Inside p p.links.stations (m - 1)
-    stations_inside = record { low = omega arith; high = omega (arith, room, P.w_apart, P.w_Fits) }
+    stations_inside = record { low = omega arith; high = omega (arith, room, P.w_apart, P.w_fits) }
 
     next_inside : Inside p (p.links.stations + 1) (m - 1)
-    next_inside = record { low = omega arith; high = omega (arith, room, P.room, P.w_apart, P.w_Fits) }
+    next_inside = record { low = omega arith; high = omega (arith, room, P.room, P.w_apart, P.w_fits) }
 
     w_inside : Inside p p.pairs.seconds (n.pairs - 1)
-    w_inside = record { low = omega (arith, P.w_apart); high = omega (arith, P.w_Fits) }
+    w_inside = record { low = omega (arith, P.w_apart); high = omega (arith, P.w_fits) }
 
     v_inside : Inside p (p.pairs.firsts + 1) (n.pairs - 1)
     v_inside = record { low = omega (arith, P.v_apart); high = omega (arith, P.v_fits) }
@@ -226,5 +226,5 @@ module _
             end = W.end;
             why = W.why;
             long = W.long ∙ memory_long;
-            behind = W.behind ∙ above (p.links.why + p.rows.zones) (omega (arith, P.w_apart, P.w_Fits));
+            behind = W.behind ∙ above (p.links.why + p.rows.zones) (omega (arith, P.w_apart, P.w_fits));
           }

@@ -1,5 +1,7 @@
 // The links of an ordering, put into lent work memory as three lists: starts, ends and whys. The ordering's lists
 // stand there too, and the chain's stations are put there on the way.
+#![tactic(auto)]
+
 ghost use Rattle.links.specs.Stores.{Joinable, LinksJoined};
 ghost use Rattle.links.specs.Linking.{Linkable, LinksPut};
 
