@@ -1,4 +1,6 @@
 // Links that stand in lent work memory as three columns of numbers, read as records.
+#![tactic(auto)]
+
 ghost use Rattle.std.specs.Prelude.{◌≡◌};
 ghost use Rattle.columns.specs.Columns.{why_numbered, LinkStands, link_at};
 
