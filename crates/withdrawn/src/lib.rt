@@ -1,5 +1,7 @@
 // The withdrawn numbers of a network, for passes over lent work memory: the lowest number that is not withdrawn, and a
 // stamp at the place of each that is.
+#![tactic(auto)]
+
 ghost use Rattle.std.specs.Prelude.{ℕ, ◌+◌, ◌≤◌, ◌<◌, length};
 ghost use mathlib.Core.List.{Memᴰ as In};
 ghost use Rattle.rules.specs.Network.{Ascending};
@@ -23,8 +25,8 @@ pub fn lowest(gone: &[u16]) -> usize
 
 // Puts a stamp at the place of each withdrawn number, where n places from `at` on stand for the numbers below n.
 pub fn stamp(work: &mut [u16], at: usize, n: usize, gone: &[u16], mark: u16)
-    requires n_in_bounds { at + n ≤ length work.old }
-    requires by_index { (z : ℕ) → In z gone.now → z < n }
+    requires within { at + n ≤ length work.old }
+    requires gone_below { (z : ℕ) → In z gone.now → z < n }
     ensures { Stamped work.old work.new at n gone.now mark }
 {
     let mut k = 0;
