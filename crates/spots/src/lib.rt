@@ -1,5 +1,7 @@
 // The places of the components of a network in their topological order, in lent work memory.
 //   note_places   for each name its place, and once more the names in their order, behind the table
+#![tactic(auto)]
+
 ghost use Rattle.spots.specs.Spots.{PlacesNotable, PlacesNoted};
 
 use memory::wide;
