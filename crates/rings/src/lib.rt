@@ -2,6 +2,8 @@
 // a component make a ring, each followed by the next one above it, and the highest by the lowest, which is the name.
 // One pass from the last zone down has, for each name, the lowest zone of its component so far: that one follows the
 // zone which is met next. Before the first it is the name itself, so the highest zone is followed by the name.
+#![tactic(auto)]
+
 ghost use Rattle.std.specs.Prelude.{◌≡◌, ◌+◌, ◌<◌};
 ghost use Rattle.std.proofs.lemmas.List.Edits.{sets};
 ghost use Rattle.rules.specs.Lists.{span};

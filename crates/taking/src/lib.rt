@@ -1,5 +1,7 @@
 // One head of a component, in a block of 128 components: it stays where it is fresh, of the block and not in the
 // component's row yet. The crate `turning` tells the method.
+#![tactic(auto)]
+
 ghost use Rattle.std.specs.Prelude.{◌≡◌, ◌+◌, ◌*◌, ◌≤◌, ◌<◌, length};
 ghost use Rattle.memory.specs.Regions.{cell};
 ghost use Rattle.memory.specs.Putting.{ArcsFit};
