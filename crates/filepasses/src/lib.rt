@@ -2,6 +2,8 @@
 //   one_arc  tests an arc: by a quick look, and closer where that does not do
 //   scan     tests the arcs of a file, one after the other
 //   store    puts the arcs of an accepted file into two lent lists
+#![tactic(auto)]
+
 ghost use Rattle.std.specs.Prelude.{◌≤◌, length};
 ghost use Rattle.rules.specs.File.{arc_at, arcs_at};
 ghost use Rattle.filepasses.specs.Readings.{Scanned, Accepted, ArcsStored};
