@@ -1,5 +1,7 @@
 // Whether a zone of a network that passed its tests reaches another, answered in lent work memory: whether a search
 // from the one comes to the other.
+#![tactic(auto)]
+
 ghost use Rattle.rules.specs.Network.{reaches};
 ghost use Rattle.rules.specs.Calls.{handed};
 ghost use Rattle.reaching.specs.Questions.{Askable, Answered};
