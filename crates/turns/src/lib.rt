@@ -1,5 +1,7 @@
 // One source's turn in the pairing, in lent work memory: a search from the source marks what it reaches, and the
 // lowest of the sinks left that has a mark is taken out of them. A search takes no sink but the one that it pairs.
+#![tactic(auto)]
+
 ghost use Rattle.std.specs.Prelude.{ℕ, ◌+◌, ◌≤◌, ◌<◌, length, get_or};
 ghost use Rattle.turns.specs.Turn.{FirstMarked, TakenOut, Turnable, Turned};
 
@@ -11,7 +13,7 @@ use workmap::{RowsAt, SearchAt};
 // The first place in a list of zones, `count` of them from `at` on, whose zone has a mark.
 fn first_marked(work: &[u16], marks: usize, at: usize, count: usize) -> Found
     requires count_in_bounds { at + count ≤ length work.now }
-    requires by_index { (k : ℕ) → k < count → marks + get_or work.now (at + k) 0 < length work.now }
+    requires marks_in_bounds { (k : ℕ) → k < count → marks + get_or work.now (at + k) 0 < length work.now }
     ensures { FirstMarked work.now marks at count result }
 {
     let mut i = 0;

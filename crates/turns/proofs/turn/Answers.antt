@@ -1,0 +1,60 @@
+-- `turn` meets its contract: the marks are cleared, the search sets them, and the first marked sink is taken
+-- out. The marks are those of a search from cleared marks, so that the look along the sinks stays within the memory.
+-- Assumes nothing.
+use native.Mathlib.Omega.{arith}
+use Rattle.turns.proofs.TurnLaws.{searchable, lookable, turned_nothing, turned_found}
+use Rattle.turns.proofs.turn.Goals as goal
+
+pub search-requires : goal.search-requires
+search-requires c =
+    let a = c.args in
+    rw c.fill.ensures
+    (searchable a.work.now a.rows a.at a.source a.sinks a.left c.requires)
+
+pub first_marked-requires : goal.first_marked-requires
+first_marked-requires c =
+    let a = c.args in
+    let done = rw c.fill.ensures at c.search.ensures in
+    let look = lookable a.work.now a.rows a.at a.source a.sinks a.left c.requires c.search.new.work done in
+    record { count_in_bounds = look.0; marks_in_bounds = look.1 }
+
+pub returns-in-Nothing : goal.returns-in-Nothing
+returns-in-Nothing c =
+    let a = c.args in
+    let done = rw c.fill.ensures at c.search.ensures in
+    turned_nothing a.work.now a.rows a.at a.source a.sinks a.left c.requires c.search.new.work done c.in-Nothing.ensures
+
+pub overflow_add-sinks : goal.overflow_add-sinks
+overflow_add-sinks c =
+    let a = c.args in
+    let done = rw c.fill.ensures at c.search.ensures in
+    let look = lookable a.work.now a.rows a.at a.source a.sinks a.left c.requires c.search.new.work done in
+    omega (arith, look.0, c.in-At.ensures)
+
+pub offset_bounds-work-sinks : goal.offset_bounds-work-sinks
+offset_bounds-work-sinks c =
+    let a = c.args in
+    let done = rw c.fill.ensures at c.search.ensures in
+    let look = lookable a.work.now a.rows a.at a.source a.sinks a.left c.requires c.search.new.work done in
+    omega (arith, look.0, c.in-At.ensures)
+
+pub bounds-work-sinks : goal.bounds-work-sinks
+bounds-work-sinks c =
+    let a = c.args in
+    let done = rw c.fill.ensures at c.search.ensures in
+    let look = lookable a.work.now a.rows a.at a.source a.sinks a.left c.requires c.search.new.work done in
+    omega (arith, look.0, c.in-At.ensures)
+
+pub take_out-requires : goal.take_out-requires
+take_out-requires c =
+    let a = c.args in
+    let done = rw c.fill.ensures at c.search.ensures in
+    let look = lookable a.work.now a.rows a.at a.source a.sinks a.left c.requires c.search.new.work done in
+    (omega (arith, c.in-At.ensures), look.0)
+
+pub returns-in-At : goal.returns-in-At
+returns-in-At c =
+    let a = c.args in
+    let done = rw c.fill.ensures at c.search.ensures in
+    turned_found a.work.now a.rows a.at a.source a.sinks a.left c.requires c.search.new.work done
+    c.take_out.new.work c.in-At.j c.wide-z.result c.in-At.ensures c.wide-z.ensures c.take_out.ensures
