@@ -6,6 +6,8 @@
 // when b is not in U(a): no third component lies between. So the turns go backwards along the order.
 // Row j of the table, eight elements of 16 bits from j * 8 on, has a bit for each of the 128 components of the block.
 // The names of the components, and their rows of heads, which are places too, stand behind the table.
+#![tactic(auto)]
+
 ghost use Rattle.std.specs.Prelude.{◌<◌};
 ghost use Rattle.memory.specs.Regions.{cell};
 ghost use Rattle.memory.specs.Putting.{ArcsFit};
