@@ -1,5 +1,7 @@
 // The tests of a network that is handed in, in their order, with the set of its withdrawn zones, and the test of the
 // work memory, which asks for as much as the network's counts say.
+#![tactic(auto)]
+
 ghost use Rattle.std.specs.Prelude.{◌≡◌, [], ◌∷◌, length};
 ghost use Rattle.rules.specs.Calls.{arcs_tests, arcs_of, room_test, asked_work};
 ghost use Rattle.zoneset.specs.Held.{held};
