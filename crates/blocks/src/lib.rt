@@ -6,6 +6,8 @@
 // on: a row of the table is eight 16-bit words, a bit for each of them. All components that stand before the block's
 // end have their turns (`turning`), from the last on, so that the rows of a component's heads are there before its own.
 // A component behind the block reaches none of it, so its row stays clear.
+#![tactic(auto)]
+
 ghost use Rattle.std.specs.Prelude.{◌≡◌, ◌≤◌};
 ghost use Rattle.memory.specs.Regions.{cell};
 ghost use Rattle.memory.specs.Putting.{ArcsFit};

@@ -1,0 +1,32 @@
+use Rattle.memory.proofs.Puts.{put_long}
+use Rattle.blocks.proofs.BlockLoops.{blocking_start, blocking_laid, blocking_first, blocking_room}
+use Rattle.blocks.proofs.BlockLoops.{blocking_turn, blocking_end}
+use Rattle.blocks.proofs.cross.Goals as goal
+
+pub loop-first-preserved : goal.loop-first-preserved
+loop-first-preserved c =
+    blocking_turn c.requires.block_laid c.loop-first.invariant c.loop-first-test.true c.block-next.new.work
+    c.block-next.new.tails c.block-next.new.heads c.block-next.result c.block-next.ensures
+
+pub returns : goal.returns
+returns c = blocking_end c.loop-first.invariant c.loop-first-test.false
+
+pub loop-first-init : goal.loop-first-init
+loop-first-init c =
+    let a = c.args in
+    blocking_start a.work.now a.at a.places a.tails.now a.heads.now a.put
+
+pub block-next-requires : goal.block-next-requires
+block-next-requires c =
+    record {
+      block_laid = blocking_laid c.requires.block_laid c.loop-first.invariant c.loop-first-test.true;
+      first_bound = blocking_first c.requires.block_laid c.loop-first.invariant c.loop-first-test.true;
+      arcs_fit = blocking_room c.requires.block_laid c.loop-first.invariant c.loop-first-test.true
+          c.requires.arcs_fit;
+    }
+
+pub shape_of-tails : goal.shape_of-tails
+shape_of-tails c = (put_long c.loop-first.invariant.put).0
+
+pub shape_of-heads : goal.shape_of-heads
+shape_of-heads c = (put_long c.loop-first.invariant.put).1
