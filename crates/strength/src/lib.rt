@@ -1,5 +1,7 @@
 // Whether a network that passed its tests is strong, answered in lent work memory: whether a search from the lowest
 // zone that is not withdrawn comes to all others along the arcs, and against them.
+#![tactic(auto)]
+
 ghost use Rattle.std.specs.Prelude.{◌≡◌, ◌&&◌, ◌+◌, ◌≤◌, length};
 ghost use Rattle.rules.specs.Network.{strong};
 ghost use Rattle.rules.specs.Calls.{handed_with};
