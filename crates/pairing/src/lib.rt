@@ -1,5 +1,7 @@
 // Points 1 and 2 of the plan rule, in lent work memory: each source in turn takes the lowest sink that it reaches and
 // that is still unpaired, or stays unpaired. One search a source.
+#![tactic(auto)]
+
 ghost use Rattle.std.specs.Prelude.{List, ℕ, ◌+◌};
 ghost use Rattle.pairing.specs.Pairs.{Pairable, Course, PairingUnderway, Paired};
 

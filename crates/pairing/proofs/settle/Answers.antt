@@ -1,0 +1,36 @@
+-- `settle` meets its contract: the source has its turn, and is stored by what the turn answers.
+-- Assumes nothing.
+use borrow.Author.Rules.{rules}
+use native.Mathlib.Omega.{arith}
+use mathlib.Core.Path.{refl}
+use Prim.Native.Nat.{◌+◌}
+use lib.ListN.{get_or, length-set}
+use Rattle.pairing.proofs.CourseLaws.{turnable, course_lone, course_paired}
+use Rattle.pairing.proofs.settle.Goals as goal
+
+pub turn-requires : goal.turn-requires
+turn-requires c =
+    let a = c.args in
+    turnable c.requires.began a.work.now a.at a.s a.t a.i a.p c.requires.course
+    c.wide-source.result
+    c.wide-source.ensures c.requires.more
+
+pub returns-in-Nothing : goal.returns-in-Nothing
+returns-in-Nothing c =
+    let a = c.args in
+    λ v C.
+    course_lone v a.work.now a.at a.s a.t a.i a.p C (get_or a.work.now (a.at.lists.sources + a.i) 0) refl
+    c.requires.more c.turn.new.work (rw c.wide-source.ensures at c.in-Nothing.ensures)
+
+pub overflow_cast-work : goal.overflow_cast-work
+overflow_cast-work c = omega (arith, c.in-At.ensures.over.0, c.requires.course.able.laid.small)
+
+pub bounds-work-seconds : goal.bounds-work-seconds
+bounds-work-seconds c = simp length-set (search rules)
+
+pub returns-in-At : goal.returns-in-At
+returns-in-At c =
+    let a = c.args in
+    λ v C.
+    course_paired v a.work.now a.at a.s a.t a.i a.p C (get_or a.work.now (a.at.lists.sources + a.i) 0) refl
+    c.requires.more c.turn.new.work c.in-At.z (rw c.wide-source.ensures at c.in-At.ensures)
