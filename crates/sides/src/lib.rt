@@ -1,5 +1,7 @@
 // The side on which the plan rule runs: as given, or turned round where there are more sources than sinks. And how
 // many of each the links are made of, once its pairs are made.
+#![tactic(auto)]
+
 ghost use Rattle.std.specs.Prelude.{◌≡◌, ◌≤◌};
 ghost use Rattle.workmap.specs.Map.{map_of};
 ghost use Rattle.sides.specs.Sides.{AsGiven, TurnedRound, RuleSide, Tallied};

@@ -3,12 +3,11 @@ use mathlib.Core.Path.{refl}
 use mathlib.Core.Logic.{inl}
 use native.Mathlib.Omega.{arith}
 use Rattle.workmap.proofs.Places.{placed, searches_placed, lists_placed, pairs_placed, links_placed}
-use Rattle.sides.proofs.as_given.Statement.{statement}
-use Rattle.sides.proofs.as_given.Tie as tie
+use Rattle.sides.proofs.as_given.Goals as goal
 
-returns : tie.Need-returns
+pub returns : goal.returns
 returns c =
-    let e = c.before.before.before.before.before.requires in
+    let e = c.requires in
     let a = placed e in
     let b = searches_placed e in
     let l = lists_placed e in
@@ -38,6 +37,3 @@ returns c =
       zones = refl;
       columns = λ w ls C. C;
     }
-
-pub as_given_spec : {M : Type 1} → statement M
-as_given_spec = tie.close (tie.spec returns)

@@ -4,14 +4,12 @@ use mathlib.Core.Logic.{inr}
 use native.Mathlib.Omega.{arith}
 use Rattle.workmap.proofs.Places.{placed, searches_placed, lists_placed, pairs_placed, links_placed}
 use Rattle.sides.proofs.Turning.{stands_turned, columns_turned}
-use Rattle.sides.proofs.turned_round.Statement.{statement}
-use Rattle.sides.proofs.turned_round.Tie as tie
+use Rattle.sides.proofs.turned_round.Goals as goal
 
-returns : tie.Need-returns
+pub returns : goal.returns
 returns c =
-    let s = c.before.before.before in
-    let e = s.requires in
-    let m = s.args.m in
+    let e = c.requires in
+    let m = c.args.m in
     let a = placed e in
     let b = searches_placed e in
     let l = lists_placed e in
@@ -42,6 +40,3 @@ returns c =
       stands = λ w N B. stands_turned N same B.given B.turned_round B.turned_fits;
       zones = same;
     }
-
-pub turned_round_spec : {M : Type 1} → statement M
-turned_round_spec = tie.close (tie.spec returns)
