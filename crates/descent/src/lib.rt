@@ -4,6 +4,8 @@
 //     rows          how many zones there are, and where the rows' starts and the rows stand
 //     at            where the marks, each zone's next place in its row, and the order stand
 //     lo            how many zones have ended;   hi   where in the order's region the stack's top stands
+#![tactic(auto)]
+
 ghost use Rattle.std.specs.Prelude.{◌<◌};
 ghost use Rattle.descent.specs.Memory.{Ready, State, Full, Went};
 
