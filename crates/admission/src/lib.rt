@@ -1,5 +1,7 @@
 // The tests of each call that is handed a network and lent work memory, in the order of the rules: chains of the tests
 // of `intake`. A test that only some calls make is a line in each of these.
+#![tactic(auto)]
+
 ghost use Rattle.std.specs.Prelude.{◌≡◌};
 ghost use Rattle.rules.specs.Calls.{strong_trouble, reach_trouble, skeleton_trouble, plan_trouble, records_trouble};
 ghost use Rattle.probes.specs.Tested.{tested_trouble};
