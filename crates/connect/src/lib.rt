@@ -1,5 +1,7 @@
 // Connecting the sources and the sinks of a side: they are paired along its rows, and the links of the ordering are
 // put.
+#![tactic(auto)]
+
 ghost use Rattle.rules.specs.Network.{Network};
 ghost use Rattle.connect.specs.Connect.{Connectable, Connected};
 
