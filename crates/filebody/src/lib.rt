@@ -1,5 +1,7 @@
 // A network file past its two counts.
 //   body    its arcs, and nothing after them: tested to the end, and only then stored
+#![tactic(auto)]
+
 ghost use Rattle.std.specs.Prelude.{◌≤◌, length};
 ghost use Rattle.rules.specs.File.{body_at};
 ghost use Rattle.filebody.specs.Answered.{ReadingAnswered};

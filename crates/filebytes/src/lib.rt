@@ -1,6 +1,8 @@
 // The bytes of a network file.
 //   arcs_length    how many bytes the arcs are written as
 //   write_file     the bytes of a network, put into a lent list that has room for them
+#![tactic(auto)]
+
 ghost use Rattle.std.specs.Prelude.{◌≡◌, ◌+◌, ◌≤◌, length};
 ghost use Rattle.std.proofs.lemmas.List.Edits.{sets};
 ghost use Rattle.rules.specs.Lists.{over};
@@ -27,8 +29,8 @@ pub fn arcs_length(tails: &[u16], heads: &[u16]) -> usize
 
 // Puts the arcs in, one after the other, from a place on.
 fn write_arcs(file: &mut [u8], from: usize, tails: &[u16], heads: &[u16])
-    requires tails_len { length tails.now ≡ length heads.now }
-    requires heads_in_bounds { from + length (arcs_bytes (arcs_of tails.now heads.now)) ≤ length file.old }
+    requires same_length { length tails.now ≡ length heads.now }
+    requires has_room { from + length (arcs_bytes (arcs_of tails.now heads.now)) ≤ length file.old }
     ensures { file.new
         ≡ sets file.old from (arcs_bytes (arcs_of tails.now heads.now)) }
 {
@@ -43,8 +45,8 @@ fn write_arcs(file: &mut [u8], from: usize, tails: &[u16], heads: &[u16])
 
 // Puts the whole file in.
 pub fn write_file(zones: usize, tails: &[u16], heads: &[u16], file: &mut [u8])
-    requires zones_bound { (zones ≤ 1024) × ((length tails.now ≡ length heads.now) × (length tails.now ≤ 4096)) }
-    requires heads_in_bounds { length (written zones tails.now heads.now) ≤ length file.old }
+    requires counts_bound { (zones ≤ 1024) × ((length tails.now ≡ length heads.now) × (length tails.now ≤ 4096)) }
+    requires has_room { length (written zones tails.now heads.now) ≤ length file.old }
     ensures { file.new
         ≡ over (written zones tails.now heads.now) file.old }
 {

@@ -11,7 +11,7 @@ ghost use Rattle.filenumbers.specs.Readings.{number_reading};
 use rules::{Trouble, TroubleKind};
 
 // The reading place. It moves forward by one number at a time.
-#[derive(Drop)]
+#[derive(Clone, Copy)]
 pub struct Cursor {
     pub at: usize,
 }
