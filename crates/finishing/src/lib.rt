@@ -2,6 +2,8 @@
 // A deep search goes along the arranged rows, in lent work memory. A zone ends when all its heads are seen, and zones
 // are listed as they end. There is no recursion: `descent` says how the stack and the ended zones share a region.
 //     lo, ended     how many zones have ended;   hi   where in the order's region the stack's top stands
+#![tactic(auto)]
+
 ghost use Rattle.std.specs.Prelude.{◌≡◌, ℕ, ◌-◌, ◌<◌};
 ghost use Rattle.memory.specs.Regions.{cell};
 ghost use Rattle.descent.specs.Memory.{Ready, State, OrderKept, Begun, Finished};
@@ -67,7 +69,7 @@ fn begin_all(work: &mut [u16], rows: RowsAt, at: OrderAt)
 // first next place.
 pub fn finish(work: &mut [u16], rows: RowsAt, at: OrderAt)
     requires ready { Ready work.old rows at }
-    requires by_index { (v : ℕ) → v < rows.zones → cell work.old at.seen v ≡ 0 }
+    requires marks_clear { (v : ℕ) → v < rows.zones → cell work.old at.seen v ≡ 0 }
     ensures { OrderKept work.old work.new rows at
         × Finished work.new rows at }
 {
