@@ -2,6 +2,8 @@
 // each zone that has no root becomes the root of its component: a search against the arcs, among zones that have no
 // root, finds the others. Its mark is the root number, one more than the root, and its queue lists the zones as they
 // get their roots, so by component, in topological order.
+#![tactic(auto)]
+
 ghost use Rattle.workmap.specs.declared.RowsAt.{RowsAt};
 ghost use Rattle.roots.specs.Roots.{Collectable, Collected};
 
