@@ -1,5 +1,7 @@
 // The eight numbers of the C interface: each call's answer is put into them, its number first, then its place, then its
 // values, and 0 in what is left.
+#![tactic(auto)]
+
 ghost use Rattle.std.specs.Prelude.{◌≡◌, [], ◌∷◌};
 ghost use Rattle.rules.specs.Answers.{yes_number, answer_eight, refused};
 ghost use Rattle.rules.specs.Answers.{read_told, write_told, strong_told, reach_told, skeleton_told, plan_told};
