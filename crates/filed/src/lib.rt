@@ -1,5 +1,7 @@
 // Calls that read or write a file, each brought to an outcome: a file that is read, and a network's skeleton and the
 // file of that.
+#![tactic(auto)]
+
 use outcomes::outcome::Outcome;
 use outcomes::{lent, outcome};
 use rules::{ReadAnswer, SkeletonAnswer, WriteAnswer};

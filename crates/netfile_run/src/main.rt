@@ -1,43 +1,49 @@
 // Runs `read` and `write`: document 01's files, every kind of refusal at the first, a middle and the last number,
 // lists that are exact and one short, and the largest network. A line is the label, the number, the place and the
 // values, and after a `|` what each lent list holds.
-ghost use Rattle.std.specs.Prelude.{◌<◌, length};
+#![tactic(auto)]
+
+ghost use Rattle.std.specs.Prelude.{◌<◌, length, IfOk};
 
 mod reads;
 mod writes;
 
+use std::io;
+
 // A row, by its first number: a file that is read, a network that is written, or a part of the largest one.
-fn run(given: &[u16; 20]) {
+fn run(rt: &impl Print, given: &[u16; 20]) -> io::Result<()> {
     match runtable::at(given, 1) {
-        0 => reads::run(given),
-        1 => writes::run(given),
-        _ => writes::large(given),
+        0 => reads::run(rt, given),
+        1 => writes::run(rt, given),
+        _ => writes::large(rt, given),
     }
 }
 
 // A row.
-fn row(text: &[u8], from: usize) -> usize
+fn row(rt: &impl Print, text: &[u8], from: usize) -> io::Result<usize>
     requires { from < length text.now }
-    ensures { from < result }
+    ensures { IfOk result (λ next. from < next) }
 {
     let mut given = [0; 20];
-    let next = runtable::row(text, from, &mut given);
-    run(&given);
-    next
+    let next = runtable::row(rt, text, from, &mut given)?;
+    run(rt, &given)?;
+    Ok(next)
 }
 
 // All rows.
-fn rows(text: &[u8]) {
+fn rows(rt: &impl Print, text: &[u8]) -> io::Result<()> {
     let mut from = 0;
     while from < text.len() {
-        from = row(text, from);
+        from = row(rt, text, from)?;
     }
+    Ok(())
 }
 
 // Files that are read: some are accepted; of others the first number, one in the middle or the last is refused. A row
 // has 0, the file's length, the lengths of the two lists that are lent, and the file's bytes.
-fn read_rows() {
+fn read_rows(rt: &impl Print) -> io::Result<()> {
     rows(
+        rt,
         b"A: 0 12 6 6 6 5 0 2 2 3 0 4 1 4 4 5;\
           one zone: 0 2 0 0 1 0;\
           1024 zones: 0 3 6 6 128 8 0;\
@@ -74,12 +80,13 @@ fn read_rows() {
           tail and head out of range: 0 4 6 6 2 1 2 3;\
           self: 0 4 6 6 2 1 1 1;\
           last arc to itself: 0 6 6 6 3 2 0 1 2 2;",
-    );
+    )
 }
 
 // Files with bytes after the arcs; and lists that are exact or one short, before any arc is read and after ARCS.
-fn room_rows() {
+fn room_rows(rt: &impl Print) -> io::Result<()> {
     rows(
+        rt,
         b"extra after no arc: 0 3 6 6 1 0 0;\
           extra after an arc: 0 6 6 6 2 1 0 1 0 1;\
           room exact: 0 6 2 2 3 2 0 1 1 2;\
@@ -88,14 +95,15 @@ fn room_rows() {
           room before the arcs: 0 4 0 1 2 1 5 5;\
           arcs before room: 0 4 0 0 128 8 129 32;\
           4096 arcs, no room: 0 4 6 6 128 8 128 32;",
-    );
+    )
 }
 
 // Networks that are written; each refusal of the network, at the first, a middle and the last arc, and two troubles at
 // once; and a list that is exact, and one short. A row has 1, the zones, the length of the list that is lent, how many
 // tails and heads there are, and those, five places for each.
-fn write_rows() {
+fn write_rows(rt: &impl Print) -> io::Result<()> {
     rows(
+        rt,
         b"write A: 1 6 12 5 5 0 2 0 1 4 2 3 4 4 5;\
           write one zone: 1 1 12 0 0;\
           write 1024 zones: 1 1024 12 2 2 127 128 0 0 0 1023 0;\
@@ -119,26 +127,27 @@ fn write_rows() {
           write none left: 1 3 12 0 0 0 0 0 0 0 0 0 0 0 0 3 0 1 2;\
           write gone head: 1 4 12 2 2 0 2 0 0 0 2 3 0 0 0 1 3;\
           write gone before room: 1 4 0 2 2 0 2 0 0 0 2 3 0 0 0 1 3;",
-    );
+    )
 }
 
 // 4,097 arcs are too many. 4,096 arcs whose every number has two groups are the longest file: one byte short, exact and
 // read back, and with a byte to spare, which is then a byte too many. A row has 2, or 3 where the file is read back,
 // the zones, the length of the list that is lent, and how many arcs there are.
-fn large_rows() {
+fn large_rows(rt: &impl Print) -> io::Result<()> {
     rows(
+        rt,
         b"write 4097 arcs: 2 1024 12 4097;\
           longest file, one byte short: 2 1024 16387 4096;\
           longest file: 2 1024 16388 4096;\
           longest file, read back: 3 1024 16388 4096;\
           longest file, a byte to spare: 2 1024 16389 4096;\
           longest file and a byte: 3 1024 16389 4096;",
-    );
+    )
 }
 
-fn main() {
-    read_rows();
-    room_rows();
-    write_rows();
-    large_rows();
+fn main(rt: HostRuntime) -> io::Result<()> {
+    read_rows(&rt)?;
+    room_rows(&rt)?;
+    write_rows(&rt)?;
+    large_rows(&rt)
 }

@@ -1,11 +1,14 @@
 // Runs `strong` and `reach`: every refusal, the order of two troubles at once, yes and no, and the largest sizes.
 // A line has the label, the number, the place, the value, and how many elements of the work memory are not zero then.
-ghost use Rattle.std.specs.Prelude.{◌<◌, length};
+#![tactic(auto)]
+
+ghost use Rattle.std.specs.Prelude.{◌<◌, length, IfOk};
 
 use network::{reach, strong};
 use printing::{done, number, others, refused};
 use rules::{ReachAnswer, StrongAnswer};
 use runtable::{at, front, part};
+use std::io;
 
 // A yes as 1, and a no as 0.
 fn value(yes: bool) -> usize {
@@ -13,25 +16,25 @@ fn value(yes: bool) -> usize {
 }
 
 // What STRONG says.
-fn show_strong(answer: StrongAnswer) {
+fn show_strong(rt: &impl Print, answer: StrongAnswer) -> io::Result<()> {
     match answer {
-        StrongAnswer::Done { yes } => done(value(yes)),
-        StrongAnswer::Refused(t) => refused(t),
+        StrongAnswer::Done { yes } => done(rt, value(yes)),
+        StrongAnswer::Refused(t) => refused(rt, t),
     }
 }
 
 // What REACH says.
-fn show_reach(answer: ReachAnswer) {
+fn show_reach(rt: &impl Print, answer: ReachAnswer) -> io::Result<()> {
     match answer {
-        ReachAnswer::Done { yes } => done(value(yes)),
-        ReachAnswer::Refused(t) => refused(t),
+        ReachAnswer::Done { yes } => done(rt, value(yes)),
+        ReachAnswer::Refused(t) => refused(rt, t),
     }
 }
 
 // How many elements of the work memory are not zero, and the end of the line.
-fn show_rest(work: &[u16; 28673]) {
-    number(others(work, 0));
-    printing::line_end();
+fn show_rest(rt: &impl Print, work: &[u16; 28673]) -> io::Result<()> {
+    number(rt, others(work, 0))?;
+    printing::line_end(rt)
 }
 
 // The withdrawn numbers of a row.
@@ -40,18 +43,21 @@ fn withdrawn<'a>(given: &'a [u16]) -> &'a [u16] {
 }
 
 // Asks STRONG, and prints the line after its label.
-fn ask_strong(given: &[u16], tails: &[u16], heads: &[u16]) {
+fn ask_strong(rt: &impl Print, given: &[u16], tails: &[u16], heads: &[u16]) -> io::Result<()> {
     let mut work = [7; 28673];
     let lent = front(&mut work, at(given, 5));
-    show_strong(strong(at(given, 4), tails, heads, withdrawn(given), lent));
-    show_rest(&work);
+    show_strong(
+        rt,
+        strong(at(given, 4), tails, heads, withdrawn(given), lent),
+    )?;
+    show_rest(rt, &work)
 }
 
 // Asks REACH, and prints the line after its label.
-fn ask_reach(given: &[u16], tails: &[u16], heads: &[u16]) {
+fn ask_reach(rt: &impl Print, given: &[u16], tails: &[u16], heads: &[u16]) -> io::Result<()> {
     let mut work = [7; 28673];
     let lent = front(&mut work, at(given, 5));
-    show_reach(reach(
+    let answer = reach(
         at(given, 4),
         tails,
         heads,
@@ -59,16 +65,17 @@ fn ask_reach(given: &[u16], tails: &[u16], heads: &[u16]) {
         at(given, 2),
         at(given, 3),
         lent,
-    ));
-    show_rest(&work);
+    );
+    show_reach(rt, answer)?;
+    show_rest(rt, &work)
 }
 
 // Asks a row's question.
-fn ask(given: &[u16], tails: &[u16], heads: &[u16]) {
+fn ask(rt: &impl Print, given: &[u16], tails: &[u16], heads: &[u16]) -> io::Result<()> {
     if at(given, 1) == 0 {
-        ask_strong(given, tails, heads);
+        ask_strong(rt, given, tails, heads)
     } else {
-        ask_reach(given, tails, heads);
+        ask_reach(rt, given, tails, heads)
     }
 }
 
@@ -82,40 +89,41 @@ fn fill(list: &mut [u16], by: usize) {
 }
 
 // Asks about 1,024 zones and 4,096 arcs.
-fn largest(given: &[u16]) {
+fn largest(rt: &impl Print, given: &[u16]) -> io::Result<()> {
     let mut tails = [0u16; 4096];
     let mut heads = [0u16; 4096];
     fill(&mut tails, 0);
     fill(&mut heads, at(given, 8));
-    ask(given, &tails, &heads);
+    ask(rt, given, &tails, &heads)
 }
 
 // Asks about a row's network.
-fn run(given: &[u16; 18]) {
+fn run(rt: &impl Print, given: &[u16; 18]) -> io::Result<()> {
     match at(given, 6) {
-        4096 => largest(given),
-        4097 => ask(given, &[0; 4097], &[1; 4097]),
-        n => ask(given, part(given, 8, n), part(given, 11, at(given, 7))),
+        4096 => largest(rt, given),
+        4097 => ask(rt, given, &[0; 4097], &[1; 4097]),
+        n => ask(rt, given, part(given, 8, n), part(given, 11, at(given, 7))),
     }
 }
 
 // A row.
-fn row(text: &[u8], from: usize) -> usize
+fn row(rt: &impl Print, text: &[u8], from: usize) -> io::Result<usize>
     requires { from < length text.now }
-    ensures { from < result }
+    ensures { IfOk result (λ next. from < next) }
 {
     let mut given = [0; 18];
-    let next = runtable::row(text, from, &mut given);
-    run(&given);
-    next
+    let next = runtable::row(rt, text, from, &mut given)?;
+    run(rt, &given)?;
+    Ok(next)
 }
 
 // All rows.
-fn rows(text: &[u8]) {
+fn rows(rt: &impl Print, text: &[u8]) -> io::Result<()> {
     let mut from = 0;
     while from < text.len() {
-        from = row(text, from);
+        from = row(rt, text, from)?;
     }
+    Ok(())
 }
 
 // Each refusal; two troubles at once, of which the first in the order of the tests is told; yes and no; and the largest
@@ -123,8 +131,9 @@ fn rows(text: &[u8]) {
 // memory; how many tails and heads there are, and those, three places for each. 4,097 arcs are all from 0 to 1; 4,096
 // go from each zone to the one that is as many further on as the next number says: one ring where that is 1, two where
 // it is 2. Last come how many numbers are withdrawn, and those, three places.
-fn main() {
+fn main(rt: HostRuntime) -> io::Result<()> {
     rows(
+        &rt,
         b"pair: 0 0 0 3 57 3 2 0 1 2 1 2;\
           no zones: 0 0 0 0 57 0 0;\
           too many zones: 0 0 0 1025 28673 0 0;\
@@ -188,5 +197,5 @@ fn main() {
           two rings, to a zone of the first: 1 0 1022 1024 28672 4096 4096 2;\
           two rings, to a zone of the second: 0 0 0 1024 28672 4096 4096 2;\
           two rings, to a zone of the second: 1 0 1023 1024 28672 4096 4096 2;",
-    );
+    )
 }

@@ -1,5 +1,7 @@
 // PLAN over a lent slice of link records: the draft leaves the plan in the work memory, and the records are filled from
 // it. Only the two functions here hold the slice of records; all else is done by functions over plain lists.
+#![tactic(auto)]
+
 ghost use Rattle.std.specs.Prelude.{◌≡◌, ◌≤◌, length};
 ghost use Rattle.workmap.specs.Map.{links_at};
 ghost use Rattle.columns.specs.Columns.{LinkStands, link_at, filled};

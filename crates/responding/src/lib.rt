@@ -1,8 +1,9 @@
 // From the bytes of a network file to the bytes that linkplan writes, in a lent buffer: the plan of the network, or
 // the one line of a refusal.
+#![tactic(auto)]
+
 ghost use Rattle.buffer.specs.Put.{Written};
-ghost use Rattle.io.specs.Counts.{IsPrefixLen};
-ghost use Rattle.responding.specs.Buffers.{PlanLent, handed_lines, Responded};
+ghost use Rattle.responding.specs.Buffers.{IsPrefixLen, PlanLent, handed_lines, Responded};
 
 use netfile::read;
 use phrases::refuse;

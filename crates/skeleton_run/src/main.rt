@@ -2,22 +2,25 @@
 // largest sizes, and every refusal. A line has the label, the number, the place, the arc count, the arcs that were
 // put, and how many elements of the work memory are not zero then. Of long lists it has how many elements were put,
 // and their sum.
-ghost use Rattle.std.specs.Prelude.{◌<◌, length};
+#![tactic(auto)]
+
+ghost use Rattle.std.specs.Prelude.{◌<◌, length, IfOk};
 
 use printing::{number, others, put};
 use rules::SkeletonAnswer;
 use runtable::{at, front, part};
 use skeleton::skeleton;
+use std::io;
 
 // What the lent lists hold before: no zone has this number.
 const UNUSED: u16 = 65535;
 
 // What the answer says.
-fn show(answer: SkeletonAnswer) {
-    put(b':');
+fn show(rt: &impl Print, answer: SkeletonAnswer) -> io::Result<()> {
+    put(rt, b':')?;
     match answer {
-        SkeletonAnswer::Done { arcs } => printing::done(arcs),
-        SkeletonAnswer::Refused(t) => printing::refused(t),
+        SkeletonAnswer::Done { arcs } => printing::done(rt, arcs),
+        SkeletonAnswer::Refused(t) => printing::refused(rt, t),
     }
 }
 
@@ -41,55 +44,62 @@ fn sum(list: &[u16]) -> usize {
 }
 
 // How many elements of a list were put, and their sum.
-fn show_sum(list: &[u16]) {
-    number(others(list, UNUSED));
-    number(sum(list));
+fn show_sum(rt: &impl Print, list: &[u16]) -> io::Result<()> {
+    number(rt, others(list, UNUSED))?;
+    number(rt, sum(list))
 }
 
 // One arc.
-fn show_arc(tail: u16, head: usize) {
-    number(tail as usize);
-    put(b'-');
-    printing::decimal(head);
+fn show_arc(rt: &impl Print, tail: u16, head: usize) -> io::Result<()> {
+    number(rt, tail as usize)?;
+    put(rt, b'-')?;
+    printing::decimal(rt, head)
 }
 
 // The arcs that were put.
-fn show_arcs(from: &[u16], to: &[u16]) {
+fn show_arcs(rt: &impl Print, from: &[u16], to: &[u16]) -> io::Result<()> {
     let mut i = 0;
     while i < from.len() {
         if from[i] == UNUSED {
-            return;
+            return Ok(());
         }
-        show_arc(from[i], at(to, i));
+        show_arc(rt, from[i], at(to, i))?;
         i += 1;
     }
+    Ok(())
 }
 
 // The arcs that were put, or for long lists their number and their sums.
-fn show_lists(length: usize, from: &[u16], to: &[u16]) {
+fn show_lists(rt: &impl Print, length: usize, from: &[u16], to: &[u16]) -> io::Result<()> {
     if length <= 16 {
-        show_arcs(from, to);
+        show_arcs(rt, from, to)
     } else {
-        show_sum(from);
-        show_sum(to);
+        show_sum(rt, from)?;
+        show_sum(rt, to)
     }
 }
 
 // The arcs that were put, and how many elements of the work memory are not zero.
-fn show_rest(given: &[u16], from: &[u16; 4096], to: &[u16; 4096], work: &[u16; 28672]) {
-    put(b';');
-    show_lists(at(given, 2), from, to);
-    put(b';');
-    number(others(part(work, 0, at(given, 4)), 0));
-    printing::line_end();
+fn show_rest(
+    rt: &impl Print,
+    given: &[u16],
+    from: &[u16; 4096],
+    to: &[u16; 4096],
+    work: &[u16; 28672],
+) -> io::Result<()> {
+    put(rt, b';')?;
+    show_lists(rt, at(given, 2), from, to)?;
+    put(rt, b';')?;
+    number(rt, others(part(work, 0, at(given, 4)), 0))?;
+    printing::line_end(rt)
 }
 
 // Asks SKELETON, and prints the line after its label.
-fn ask(given: &[u16], tails: &[u16], heads: &[u16]) {
+fn ask(rt: &impl Print, given: &[u16], tails: &[u16], heads: &[u16]) -> io::Result<()> {
     let mut from = [UNUSED; 4096];
     let mut to = [UNUSED; 4096];
     let mut work = [7u16; 28672];
-    show(skeleton(
+    let answer = skeleton(
         at(given, 1),
         tails,
         heads,
@@ -97,8 +107,9 @@ fn ask(given: &[u16], tails: &[u16], heads: &[u16]) {
         front(&mut from, at(given, 2)),
         front(&mut to, at(given, 3)),
         front(&mut work, at(given, 4)),
-    ));
-    show_rest(given, &from, &to, &work);
+    );
+    show(rt, answer)?;
+    show_rest(rt, given, &from, &to, &work)
 }
 
 // Arc i of a largest network. In the path it goes from i, around 1,020 zones (0), to a zone 1 to 5 further on (1); in
@@ -125,46 +136,48 @@ fn ends(which: usize) -> [u16; 4096] {
 }
 
 // A largest network.
-fn largest(given: &[u16]) {
+fn largest(rt: &impl Print, given: &[u16]) -> io::Result<()> {
     let tails = ends(at(given, 7));
     let heads = ends(at(given, 7) % 4 + 1);
-    ask(given, &tails, &heads);
+    ask(rt, given, &tails, &heads)
 }
 
 // A row's network.
-fn run(given: &[u16; 25]) {
+fn run(rt: &impl Print, given: &[u16; 25]) -> io::Result<()> {
     match at(given, 5) {
-        4096 => largest(given),
-        4097 => ask(given, &[0; 4097], &[1; 4097]),
-        n => ask(given, part(given, 7, n), part(given, 14, at(given, 6))),
+        4096 => largest(rt, given),
+        4097 => ask(rt, given, &[0; 4097], &[1; 4097]),
+        n => ask(rt, given, part(given, 7, n), part(given, 14, at(given, 6))),
     }
 }
 
 // A row.
-fn row(text: &[u8], from: usize) -> usize
+fn row(rt: &impl Print, text: &[u8], from: usize) -> io::Result<usize>
     requires { from < length text.now }
-    ensures { from < result }
+    ensures { IfOk result (λ next. from < next) }
 {
     let mut given = [0; 25];
-    let next = runtable::row(text, from, &mut given);
-    run(&given);
-    next
+    let next = runtable::row(rt, text, from, &mut given)?;
+    run(rt, &given)?;
+    Ok(next)
 }
 
 // All rows.
-fn rows(text: &[u8]) {
+fn rows(rt: &impl Print, text: &[u8]) -> io::Result<()> {
     let mut from = 0;
     while from < text.len() {
-        from = row(text, from);
+        from = row(rt, text, from)?;
     }
+    Ok(())
 }
 
 // Document 01's case J, and the skeleton of its skeleton; small networks; each refusal, and lists of any length; and
 // the largest networks. A row has the zones; the lengths of the two lists and of the work memory that are lent; how
 // many tails and heads there are, and those, seven places for each. 4,097 arcs are all from 0 to 1; 4,096 are the path
 // (0) or the ring (2). Last come how many numbers are withdrawn, and those, three places.
-fn main() {
+fn main(rt: HostRuntime) -> io::Result<()> {
     rows(
+        &rt,
         b"case J: 4 6 6 83 6 6 0 1 0 2 2 0 0 1 2 2 1 3 3;\
           its skeleton: 4 6 6 83 4 4 0 1 1 2 0 0 0 1 2 3 1;\
           no arcs: 4 6 6 83 0 0;\
@@ -196,5 +209,5 @@ fn main() {
           room enough: 2 2 2 38 2 2 0 0 0 0 0 0 0 1 1;\
           1,024 zones in a path, with short cuts: 1024 4096 4096 28672 4096 4096 0;\
           1,024 zones in a ring, each arc four times: 1024 4096 4096 28672 4096 4096 2;",
-    );
+    )
 }

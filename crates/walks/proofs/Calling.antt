@@ -1,6 +1,6 @@
 -- A call as one step, whatever it takes, gives and says: of a callee with its signature T and its clauses c.
 --   all_of, each         formulas as one, and as entries of the context
---   tokens, owned, lasts_of   a call's tokens, what is owned of its arguments, and its last values, as lists
+--   tokens, owned, last_list   a call's tokens, what is owned of its arguments, and its last values, as lists
 --   Source               what is owned of an argument is carried in the context, or made for nothing
 --   asks                 what the callee asks, of its tokens and its arguments
 --   hears                what stands after the call: its last values, its result, its tokens, and what it ensures
@@ -46,16 +46,16 @@ tokens zero κs qs = []
 tokens (suc n) κs qs = flft κs.0 qs.0 ∷ tokens n κs.1 qs.1
 
 -- what is said of each last value
-abbrev pub lasts_of : {n : ℕ} (κs : Lfts n) (ss : List (Slot n)) (ks : Kepts ss) (a : Denots (types_at ss κs)) →
+abbrev pub last_list : {n : ℕ} (κs : Lfts n) (ss : List (Slot n)) (ks : Kepts ss) (a : Denots (types_at ss κs)) →
     Fins κs ss ks a → List Fml
-lasts_of κs [] ks a ws = []
-lasts_of κs (s ∷ ss) ks a ws =
-    left ((s.row κs).exit ks.0) a.0 ws.0 ∷ lasts_of κs ss ks.1 a.1 ws.1
+last_list κs [] ks a ws = []
+last_list κs (s ∷ ss) ks a ws =
+    left ((s.row κs).exit ks.0) a.0 ws.0 ∷ last_list κs ss ks.1 a.1 ws.1
 
 -- what is owned of each argument
 abbrev pub owned_of : (Ts : List RattleType) → Denots Ts → Valss Ts → List Fml
 owned_of [] a vss = []
-owned_of (T ∷ Ts) a vss = T.own a.0 vss.0 ∷ owned_of Ts a.1 vss.1
+owned_of (T ∷ Ts) a vss = T.own_val a.0 vss.0 ∷ owned_of Ts a.1 vss.1
 
 -- what is had of each parameter at the end
 abbrev pub had_of : {n : ℕ} (κs : Lfts n) (ss : List (Slot n)) (ks : Kepts ss) → Stays ss ks →
@@ -67,10 +67,10 @@ had_of κs (s ∷ ss) ks hs a ws vss =
 -- as one, these are what the signature has
 owns_are : (Ts : List RattleType) (a : Denots Ts) (vss : Valss Ts) → all_of (owned_of Ts a vss) ≡ owns Ts a vss
 owns_are [] a vss = refl
-owns_are (T ∷ Ts) a vss = ap (fsep (T.own a.0 vss.0)) (owns_are Ts a.1 vss.1)
+owns_are (T ∷ Ts) a vss = ap (fsep (T.own_val a.0 vss.0)) (owns_are Ts a.1 vss.1)
 
 lasts_are : {n : ℕ} (κs : Lfts n) (ss : List (Slot n)) (ks : Kepts ss) (a : Denots (types_at ss κs))
-    (ws : Fins κs ss ks a) → all_of (lasts_of κs ss ks a ws) ≡ lasts_of κs ss ks a ws
+    (ws : Fins κs ss ks a) → all_of (last_list κs ss ks a ws) ≡ lasts_of κs ss ks a ws
 lasts_are κs [] ks a ws = refl
 lasts_are κs (s ∷ ss) ks a ws =
     ap (fsep (left ((s.row κs).exit ks.0) a.0 ws.0)) (lasts_are κs ss ks.1 a.1 ws.1)
@@ -177,7 +177,7 @@ module _ {M : Type 1} {𝓤 : Ura M} (𝓛 : Logic 𝓤) (T : Ended) (c : Clause
 
     -- what is said of last values
     abbrev Last : Lasts T y.0.0 y.0.3 → List Fml
-    Last ws = lasts_of y.0.0 T.signature.params T.kept y.0.3 ws
+    Last ws = last_list y.0.0 T.signature.params T.kept y.0.3 ws
 
     -- what it ensures
     abbrev Says : Res T.signature y.0.0 → Lasts T y.0.0 y.0.3 → SProp 𝓤

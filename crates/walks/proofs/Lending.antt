@@ -3,27 +3,31 @@
 --   opens_row, closes_row     opened for its holder, as the row of its elements, and closed at another list
 --   lends_again, comes_back   lent as `&mut`: it comes back at the list that the callee leaves
 --   lends_shared, shared_back lent as `&`: it comes back as it was
--- Each asks for the holder's token at κ, and gives it back at the end. Assumes `Logic`.
+-- Each asks for the holder's token at κ, and gives it back at the end. A loan as `&` also asks how the elements' type is
+-- shared out, and for the tokens that this takes, and gives these back at once. Assumes `Logic`.
 use mathlib.Core.Path.{◌≡◌, refl, sym, ap, subst, ◌∙◌}
 use Prim.Native.Nat.{ℕ}
 use mathlib.Core.List.{List, [], ◌∷◌}
 use lib.ListN.{length}
 use seplogic.Ra.Ura.{Ura}
-use seplogic.Ra.TreeShare.{full_share}
+use base.Fraction.{full_share}
 use mir.Syntax.{Lifetime}
 use mir.Val.{Val}
 use base.Logic.{ent, sep, ex}
-use base.Fml.{Lft, GName, Share, Fml, fsep, flft, fdead, fobs, fauth, flent, fobor}
-use types.Logic.{Logic, sem}
-use types.Kit.{‵, ◌⊛◌, some, later, ◌$◌, ◌∵◌, !, qed, by, move, use1, use3, drop, split, pick, rewrite, fsplit}
+use base.Fml.{Lft, GName, Share, Fml, fsep, flft, fdead, fobs, fauth, flent, fobor, Incl}
+use ghost.Rules.{Toks, span}
+use types.Logic.{Logic, sem, lfts}
+use types.Kit.{‵, raw, ◌⊛◌, some, later, ◌$◌, ◌∵◌, !, qed, by, move, use1, use2, use3, drop, split, pick, rewrite, fsplit}
 use types.Kit.{fjoin, feq_i, frame, await, updating, now as at_once, show, done}
 use types.SemTy.{cells, Arr}
 use types.Share.{arr_parts}
 use types.Tokens.{lent_back}
 use denote.RattleType.{RattleType}
 use denote.Shadow.{pure_l, pure_i}
-use denote.Memory.{mem, shares}
+use denote.Memory.{mem, shares, shared_of}
+use denote.Bor.{Bor}
 use denote.Ref.{MutBor}
+use denote.Shares.{SharesAsFrom}
 use denote.Slice.{slice_val, MutSlice, ShrSlice, heres, Room, finally, shr_slice_at, mut_slice_at, coded_holeys}
 use denote.Lend.{Held, lends_slice, slice_back, lends_shr_slice}
 use denote.Index.{row, whole_out, whole_in, opens_slice, closes_slice}
@@ -32,6 +36,10 @@ module _ (R : RattleType) (b o : ℕ) where
   -- the reference under a name, at a list
   abbrev at_list : GName → List R.Denot → MutBor (List R.Denot)
   at_list δ ys = record { ref_ptr = (b, o); ghost_name = δ; now = ys }
+
+  -- and to share it
+  abbrev share_list : List R.Denot → Bor (List R.Denot)
+  share_list ys = record { ref_ptr = (b, o); now = ys }
 
   -- its machine values
   abbrev at_vals : List R.Denot → List Val
@@ -121,32 +129,28 @@ module _ (R : RattleType) (κ κ' : Lft) (q : Share) (γ : GName) (b o : ℕ) wh
         use1 𝓛 (‵ (row R full_share zs b o)) (whole_out 𝓛 R zs b o) $
         by ! (closes_row R κ q γ b o 𝓛 ℓ ys vals zs refl room e)
 
-    -- lent as `&`, at any machine values
-    pub lends_shared : (vs : List Val) →
-        ent 𝓤 (sep 𝓤 (sem 𝓛 ((MutSlice ℓ κ R).own_val (at_list R b o γ ys) vs)) (A.lft κ q))
+    -- lent as `&`, at any machine values, where the type is shared out with tokens ts
+    pub lends_shared : (vs : List Val) (l : Lft) → SharesAsFrom 𝓛 full_share R (shared_of R) l → (ts : Toks) →
+        Incl (span ts) l → Incl (span ts) κ' →
+        ent 𝓤
+        (sep 𝓤 (sem 𝓛 ((MutSlice ℓ κ R).own_val (at_list R b o γ ys) vs)) (sep 𝓤 (A.lft κ q) (lfts 𝓛 ts)))
         (H.⇛
-        (ex 𝓤
-        (λ (γ₁ : GName).
-        sep 𝓤 (sem 𝓛 ((ShrSlice ℓ' κ' R).own_val (at_list R b o γ₁ ys) vs)) (sem 𝓛 (LentShared ys)))))
-    lends_shared vs =
-        qed 𝓛 (‵ ((MutSlice ℓ κ R).own_val (at_list R b o γ ys) vs) ∷ ‵ (flft κ q) ∷ []) ∵ updating ! $ fsplit ! $
-        pure_l ! (shr_slice_at R (at_list R b o γ ys) vs) (λ p. fsplit ! $ opens_slice ! tt R ys b o $
-        feq_i ! ℕ (length ys) (length ys) refl $ fjoin ! $
-        use1 𝓛
+        (sep 𝓤 (sem 𝓛 ((ShrSlice ℓ' κ' R).own_val (share_list R b o ys) vs))
+        (sep 𝓤 (sem 𝓛 (LentShared ys)) (lfts 𝓛 ts))))
+    lends_shared vs l s ts inc sp =
+        qed 𝓛 (‵ ((MutSlice ℓ κ R).own_val (at_list R b o γ ys) vs) ∷ ‵ (flft κ q) ∷ raw (lfts 𝓛 ts) ∷ []) ∵
+        updating ! $ fsplit ! $ pure_l ! (mut_slice_at R (at_list R b o γ ys) vs) (λ p. fsplit ! $
+        opens_slice ! tt R ys b o $ feq_i ! ℕ (length ys) (length ys) refl $ fjoin ! $ move ! (0 ∷ 4 ∷ []) $
+        use2 𝓛
         (later
-        (some
-        (λ (γ₁ : GName).
-        ‵ ((ShrSlice ℓ' κ' R).own_val (at_list R b o γ₁ ys) vals)
-        ⊛ ‵ (flent κ' ((arr_parts (shares R) (length ys)).part full_share ys b o)))))
-        (lends_shr_slice 𝓛 R ℓ' κ' full_share ys b o p.1) $ await ! tt $ pick ! (λ γ₁. split ! $
-        rewrite ! 0 (λ (us : List Val). ‵ ((ShrSlice ℓ' κ' R).own_val (at_list R b o γ₁ ys) us)) (sym p.0) refl $
-        -- [the new slice; the lender's part at κ'; the open borrow at κ; obs γ; auth γ]
-        at_once ! $
-        show !
-        (λ (γ' : GName).
-        sep 𝓤 (sem 𝓛 ((ShrSlice ℓ' κ' R).own_val (at_list R b o γ' ys) vs)) (sem 𝓛 (LentShared ys))) γ₁ $
-        frame ! $ move ! (2 ∷ 3 ∷ []) $ fjoin ! $ move ! (2 ∷ 0 ∷ []) $ fjoin ! $ move ! (1 ∷ 0 ∷ []) $ fjoin ! $
-        done !))
+        ((‵ ((ShrSlice ℓ' κ' R).own_val (share_list R b o ys) vals)
+        ⊛ ‵ (flent κ' ((arr_parts (shares R) (length ys)).part full_share ys b o)))
+        ⊛ raw (lfts 𝓛 ts)))
+        (lends_shr_slice 𝓛 R ℓ' κ' full_share ys b o p.1 l s ts inc sp) $ await ! tt $ split ! $ split ! $
+        rewrite ! 0 (λ (us : List Val). ‵ ((ShrSlice ℓ' κ' R).own_val (share_list R b o ys) us)) (sym p.0) refl $
+        -- [the new slice; the lender's part at κ'; the tokens; the open borrow at κ; obs γ; auth γ]
+        at_once ! $ frame ! $ move ! (3 ∷ 4 ∷ []) $ fjoin ! $ move ! (3 ∷ 0 ∷ []) $ fjoin ! $
+        move ! (1 ∷ 0 ∷ []) $ fjoin ! $ frame ! $ done !)
 
     -- it comes back as it was
     pub shared_back : (vs : List Val) → vs ≡ vals → Room R (length ys) →

@@ -9,7 +9,7 @@ use Prim.Native.Nat.{ℕ}
 use mathlib.Core.List.{List, [], ◌∷◌, map}
 use lib.ListN.{length, length-map}
 use seplogic.Ra.Ura.{Ura}
-use seplogic.Ra.TreeShare.{full_share}
+use base.Fraction.{full_share}
 use mir.Syntax.{Ty, Lifetime, ty_array}
 use mir.Val.{Val}
 use base.Logic.{ent, sep, ex}
@@ -78,7 +78,7 @@ module _ {M : Type 1} {𝓤 : Ura M} (𝓛 : Logic 𝓤) (R : RattleType) (n b :
 
 -- each struct of a list is what the field asks for
 each_is : (T : Declared) (xs : List T.D) (us : List Val) →
-    shadow (each T.D (D.row T).own xs us) →
+    shadow (each T.D (D.row T).own_val xs us) →
     shadow (each (field T).row.Denot (field T).row.own_val (map T.to xs) us)
 each_is T [] [] s = s
 each_is T [] (u ∷ us) s = s

@@ -12,7 +12,7 @@ use mathlib.Core.Bool.{Bool, true, false}
 use mathlib.Core.List.{List, [], ◌∷◌}
 use lib.Dec.{T, eqb}
 use seplogic.Ra.Ura.{Ura}
-use seplogic.Ra.TreeShare.{full_share}
+use base.Fraction.{full_share}
 use mir.Syntax.{Ty, ty_enum, ttnil, Local, local}
 use mir.Val.{Val, WT, has_ty}
 use base.Fml.{Fml, ftrue, fsep, fat, froom, fdies}

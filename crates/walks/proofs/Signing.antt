@@ -15,7 +15,7 @@ use denote.RattleType.{RattleType}
 use denote.Laws.{Is, Ises, Tells, Spells, Tellss}
 use denote.Plain.{uint_vals, uint_Tells}
 use denote.Builtin.{usize}
-use denote.Slice.{shr_slice_vals, mut_slice_Tells, shr_slice_Tells}
+use denote.Slice.{shr_slice_vals, mut_slice_vals, mut_slice_Tells, shr_slice_Tells}
 use denote.Signature.{Slot, plain, mut_slice_of, shr_slice_of, types_at}
 use denote.Exit.{yes}
 use denote.Triple.End.{all}
@@ -57,8 +57,8 @@ module _ {n : ℕ} where
     abbrev spell : (f : Formal n) → ((slot f).row κs).Denot → List Val
     spell number = uint_vals w64
     spell (reads j ok R) = shr_slice_vals
-    spell (gives j ok R) = shr_slice_vals
-    spell (holds j ok R) = shr_slice_vals
+    spell (gives j ok R) = mut_slice_vals
+    spell (holds j ok R) = mut_slice_vals
 
     abbrev pub spells : (fs : List (Formal n)) → Spells (types_at (slots fs) κs)
     spells [] = tt

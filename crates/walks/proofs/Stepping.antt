@@ -15,7 +15,7 @@ use mathlib.Core.List.{List, [], ◌∷◌, ◌++◌}
 use mathlib.Core.Option.{some}
 use lib.Dec.{T}
 use seplogic.Ra.Ura.{Ura}
-use seplogic.Ra.TreeShare.{full_share}
+use base.Fraction.{full_share}
 use mir.Syntax.{Ty, ty_int, w64, deref, field, place, Opd as Operand, copy}
 use mir.Syntax.{Rv as RValue, aggregate, Body, seq, assign}
 use mir.Syntax.{ty_ref, Lifetime, Mutability, return, Fn}

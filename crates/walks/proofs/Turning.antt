@@ -15,7 +15,7 @@ use mathlib.Core.List.{List, [], ◌∷◌}
 use lib.ListN.{length, set, get_or}
 use lib.Dec.{T, ltb, lt→ltb, ltb→lt}
 use seplogic.Ra.Ura.{Ura}
-use seplogic.Ra.TreeShare.{full_share}
+use base.Fraction.{full_share}
 use mir.Syntax.{Ty, ty_bool, ty_ref, w64, deref, field, place, copy, rv_opd, op2, lt, unsigned, cond, skip, exit}
 use mir.Syntax.{Rv as RValue, Lifetime, Mutability, Body, seq, assign, block, loop}
 use mir.Val.{Val, vint, vbool, vptr, WT, has_ty}
@@ -107,27 +107,27 @@ module _ {M : Type 1} {𝓤 : Ura M} (𝓛 : Logic 𝓤) where
     part_room x =
         subst
         (λ (τs : List Ty).
-        ent 𝓤 (sem 𝓛 (part_of (raw_all τs) R.own full_share x b o)) (H.room τ b o)) (sym one)
+        ent 𝓤 (sem 𝓛 (part_of (raw_all τs) R.own_val full_share x b o)) (H.room τ b o)) (sym one)
         (ex_e 𝓤 _ (λ vs.
-        via 𝓤 _ (fst∗ 𝓤 (sem 𝓛 (cell_raw full_share (bare τ ∷ []) vs b o)) (sem 𝓛 (R.own x vs))) (cell_room vs)))
+        via 𝓤 _ (fst∗ 𝓤 (sem 𝓛 (cell_raw full_share (bare τ ∷ []) vs b o)) (sem 𝓛 (R.own_val x vs))) (cell_room vs)))
 
     -- and what is written lies there
     part_made : (y : R.Denot) (u : Val) →
-        ent 𝓤 (sep 𝓤 (H.at full_share τ b o u) (sem 𝓛 (R.own y (u ∷ [])))) (sem 𝓛 (part_at R full_share y b o))
+        ent 𝓤 (sep 𝓤 (H.at full_share τ b o u) (sem 𝓛 (R.own_val y (u ∷ [])))) (sem 𝓛 (part_at R full_share y b o))
     unfolding part_of
     part_made y u =
         subst
         (λ (τs : List Ty).
-        ent 𝓤 (sep 𝓤 (H.at full_share τ b o u) (sem 𝓛 (R.own y (u ∷ []))))
-        (sem 𝓛 (part_of (raw_all τs) R.own full_share y b o))) (sym one)
-        (qed 𝓛 (‵ (fat full_share τ b o u) ∷ ‵ (R.own y (u ∷ [])) ∷ []) ∵
+        ent 𝓤 (sep 𝓤 (H.at full_share τ b o u) (sem 𝓛 (R.own_val y (u ∷ []))))
+        (sem 𝓛 (part_of (raw_all τs) R.own_val full_share y b o))) (sym one)
+        (qed 𝓛 (‵ (fat full_share τ b o u) ∷ ‵ (R.own_val y (u ∷ [])) ∷ []) ∵
         use1 𝓛 (‵ (fat full_share (bare τ) b o u)) (𝓛.laws.at_raw full_share τ b o u) $ fjoin ! $
-        fpack ! (List Val) (λ vs. fsep (cell_raw full_share (bare τ ∷ []) vs b o) (R.own y vs)) (u ∷ []) $ done !)
+        fpack ! (List Val) (λ vs. fsep (cell_raw full_share (bare τ ∷ []) vs b o) (R.own_val y vs)) (u ∷ []) $ done !)
 
   -- an element of a row is written
   wrote_at : (Γ : List (Item 𝓤)) (ss : List Slot) (rs : List Thing) (n m : ℕ) (R : RattleType) (τ : Ty)
       (ys zs : List R.Denot) (i : ℕ) (y : R.Denot) (u : Val) (b o : ℕ) (P : SProp 𝓤) → Last 𝓛 Γ ss rs →
-      R.mir ≡ τ ∷ [] → thing n rs ≡ row R full_share ys b o → thing m (without n rs) ≡ R.own y (u ∷ []) →
+      R.mir ≡ τ ∷ [] → thing n rs ≡ row R full_share ys b o → thing m (without n rs) ≡ R.own_val y (u ∷ []) →
       i < length ys → set ys i y ≡ zs → T (has_ty τ u) × WT u →
       ent 𝓤 (⋆ 𝓛 (with_last 𝓛 Γ (has 𝓤 ss ((n, row R full_share zs b o) ∷ without m (without n rs))))) P →
       ent 𝓤 (⋆ 𝓛 Γ) (write 𝓤 H τ b (place_of (mem R).size o i) u P)
@@ -141,7 +141,7 @@ module _ {M : Type 1} {𝓤 : Ura M} (𝓛 : Logic 𝓤) where
       use1 𝓛 (‵ (row R full_share ys b o) ⊛ has 𝓤 ss rs₁)
       (subst (λ (F : Fml). ent 𝓤 (mean 𝓛 (has 𝓤 ss rs)) (sep 𝓤 (sem 𝓛 F) (mean 𝓛 (has 𝓤 ss rs₁)))) is_row
       (found 𝓛 n ss rs)) $ split ! $ move ! (1 ∷ []) $
-      use1 𝓛 (‵ (R.own y (u ∷ [])) ⊛ has 𝓤 ss rs₂)
+      use1 𝓛 (‵ (R.own_val y (u ∷ [])) ⊛ has 𝓤 ss rs₂)
       (subst (λ (F : Fml). ent 𝓤 (mean 𝓛 (has 𝓤 ss rs₁)) (sep 𝓤 (sem 𝓛 F) (mean 𝓛 (has 𝓤 ss rs₂)))) is_own
       (found 𝓛 m ss rs₁)) $ split ! $ move ! (2 ∷ []) $
       use1 𝓛 (‵ (part_at R full_share (get_or ys i y) b p) ⊛ ‵ (others (shares R) full_share ys i b o))
@@ -192,7 +192,7 @@ module _ {M : Type 1} {𝓤 : Ura M} {𝓛 : Logic 𝓤} {K : Type 0} {Γ : List
       pub stores_at : K → (n m : ℕ) (R : RattleType) {τ : Ty} (ys zs : List R.Denot) (i : ℕ)
           (y : R.Denot) {u : Val} {b : ℕ} (o : ℕ) {k j : ℕ} {rest : Body} → Here 𝓛 Γ E ss rs → R.mir ≡ τ ∷ [] →
           (get k ss).2 ≡ holds (vptr b (place_of (mem R).size o i)) → (get j ss).2 ≡ holds u →
-          thing n rs ≡ row R full_share ys b o → thing m (without n rs) ≡ R.own y (u ∷ []) → i < length ys →
+          thing n rs ≡ row R full_share ys b o → thing m (without n rs) ≡ R.own_val y (u ∷ []) → i < length ys →
           set ys i y ≡ zs → T (has_ty τ u) × WT u →
           Step K 𝓛 (with_last 𝓛 Γ (has 𝓤 ss ((n, row R full_share zs b o) ∷ without m (without n rs))))
           (runs C Λ E rest q) Γ
