@@ -2,6 +2,8 @@
 // in topological order. The crate `finishing` has the first pass, which finds a finishing order along the arcs; `roots`
 // the second, which goes against the arcs from the last zone that ended on; `naming` finds each component's lowest
 // zone, and lists these zones.
+#![tactic(auto)]
+
 ghost use Rattle.std.specs.Prelude.{List, ℕ};
 ghost use Rattle.rules.specs.Network.{network_of};
 ghost use Rattle.rules.specs.Calls.{arcs_of};
