@@ -2,6 +2,8 @@
 // work memory: those of the rings, and behind them those between components that stay.
 //   lay_table   the network of the components, behind where the table of who reaches whom will be
 //   draw        the arcs of the skeleton
+#![tactic(auto)]
+
 ghost use Rattle.std.specs.Prelude.{◌≡◌, ◌≤◌, length};
 ghost use Rattle.workmap.specs.Map.{map_of};
 ghost use Rattle.drawing.specs.Drawing.{Named, Tabled, Drawn};
