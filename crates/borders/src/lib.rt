@@ -1,5 +1,7 @@
 // Which components an arc comes into from another, and which one goes out of to another, in lent work memory, where
 // each zone's name stands: by one pass over the arcs, each noted at the names of its ends.
+#![tactic(auto)]
+
 ghost use Rattle.std.specs.Prelude.{◌<◌, length};
 ghost use Rattle.rules.specs.Calls.{arcs_of};
 ghost use Rattle.borders.specs.Borders.{KindsRoom, Noted, Markable, Marking};
