@@ -1,5 +1,7 @@
 // STRONG and REACH: whether a network is strong, and whether a zone reaches another. The tests come first, then the
 // question is answered in the lent work memory.
+#![tactic(auto)]
+
 ghost use Rattle.rules.specs.Answers.{strong_told, reach_told};
 ghost use Rattle.rules.specs.Promises.{StrongPromise, ReachPromise};
 
