@@ -2,6 +2,8 @@
 //   read     a file into two lent lists
 //   write    a network into a lent list of bytes
 // The parts are crates of their own: the two counts, an arc, the passes over all arcs, and the bytes.
+#![tactic(auto)]
+
 ghost use Rattle.rules.specs.Answers.{read_told, write_told};
 ghost use Rattle.rules.specs.Promises.{ReadPromise, WritePromise};
 
