@@ -3,8 +3,8 @@
 --   opens_row, closes_row     opened for its holder, as the row of its elements, and closed at another list
 --   lends_again, comes_back   lent as `&mut`: it comes back at the list that the callee leaves
 --   lends_shared, shared_back lent as `&`: it comes back as it was
--- Each asks for the holder's token at κ, and gives it back at the end. A loan as `&` also asks how the elements' type is
--- shared out, and for the tokens that this takes, and gives these back at once. Assumes `Logic`.
+-- Each asks for the holder's token at κ, and gives it back at the end. A loan as `&` also asks how the elements' type
+-- is shared out, and for the tokens that this takes, and gives these back at once. Assumes `Logic`.
 use mathlib.Core.Path.{◌≡◌, refl, sym, ap, subst, ◌∙◌}
 use Prim.Native.Nat.{ℕ}
 use mathlib.Core.List.{List, [], ◌∷◌}
@@ -17,8 +17,8 @@ use base.Logic.{ent, sep, ex}
 use base.Fml.{Lft, GName, Share, Fml, fsep, flft, fdead, fobs, fauth, flent, fobor, Incl}
 use ghost.Rules.{Toks, span}
 use types.Logic.{Logic, sem, lfts}
-use types.Kit.{‵, raw, ◌⊛◌, some, later, ◌$◌, ◌∵◌, !, qed, by, move, use1, use2, use3, drop, split, pick, rewrite, fsplit}
-use types.Kit.{fjoin, feq_i, frame, await, updating, now as at_once, show, done}
+use types.Kit.{‵, raw, ◌⊛◌, some, later, ◌$◌, ◌∵◌, !, qed, by, move, use1, use2, use3, drop, split, pick, rewrite}
+use types.Kit.{fsplit, fjoin, feq_i, frame, await, updating, now as at_once, show, done}
 use types.SemTy.{cells, Arr}
 use types.Share.{arr_parts}
 use types.Tokens.{lent_back}
@@ -60,7 +60,8 @@ module _ (R : RattleType) (κ : Lft) (q : Share) (γ : GName) (b o : ℕ) where
     pub opens_row : ent 𝓤 (sep 𝓤 (sem 𝓛 ((MutSlice ℓ κ R).own_val (at_list R b o γ ys) vs)) (A.lft κ q))
         (H.⇛ (sep 𝓤 (sem 𝓛 (row R full_share ys b o)) (sem 𝓛 (Open ys))))
     opens_row =
-        qed 𝓛 (‵ ((MutSlice ℓ κ R).own_val (at_list R b o γ ys) vs) ∷ ‵ (flft κ q) ∷ []) ∵ updating ! $ fsplit ! $ drop ! $
+        qed 𝓛 (‵ ((MutSlice ℓ κ R).own_val (at_list R b o γ ys) vs) ∷ ‵ (flft κ q) ∷ []) ∵
+        updating ! $ fsplit ! $ drop ! $
         fsplit ! $ opens_slice ! tt R ys b o $ at_once ! $ frame ! $ move ! (1 ∷ 2 ∷ []) $ fjoin ! $
         move ! (1 ∷ 0 ∷ []) $ fjoin ! $ done !
 

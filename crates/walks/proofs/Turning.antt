@@ -240,7 +240,8 @@ module _ {M : Type 1} {𝓤 : Ura M} (𝓛 : Logic 𝓤) (𝓣 : Tables 𝓤 �
   -- what a turn needs of the locals: all of it computes, so it is shown by `refl`
   abbrev Looks : Bool → ℕ → Type 0
   Looks y i =
-      ◌≡◌ {A = Look} (E, (get k (ss i)).2, (get l (ss i)).2, (get t (ss i)).0, (get t (ss i)).2, E, (get t (tested y i)).2)
+      ◌≡◌ {A = Look}
+      (E, (get k (ss i)).2, (get l (ss i)).2, (get t (ss i)).0, (get t (ss i)).2, E, (get t (tested y i)).2)
       (envs (ss i), holds (vint w64 i), holds (vint w64 n), ty_bool, room, envs (tested y i), holds (vbool y))
 
   -- the test at i, whose outcome is known
@@ -278,7 +279,8 @@ module _ {M : Type 1} {𝓤 : Ura M} (𝓛 : Logic 𝓤) (𝓣 : Tables 𝓤 �
         (tests true i (after_turn 𝓤 H X Left) (looks true i) (test_holds (ltb i n) (lt→ltb i n small)) $
         stays ! (outcome true i (looks true i)) $ turn i (after_turn 𝓤 H X Left) small h).prf)
         (λ X.
-        (tests false n (after_turn 𝓤 H X Left) (looks false n) (test_fails (ltb n n) (λ a. lt_irrefl n (ltb→lt n n a))) $
+        (tests false n (after_turn 𝓤 H X Left) (looks false n)
+        (test_fails (ltb n n) (λ a. lt_irrefl n (ltb→lt n n a))) $
         leaves_loop ! (outcome false n (looks false n)) $ record { prf = after.prf }).prf);
   }
 
