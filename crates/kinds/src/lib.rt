@@ -2,6 +2,8 @@
 // its ends, and withdrawn zones get a stamp that no kind has; then the names of the sources, of the sinks and of the
 // components alone are put, as three ascending lists, and counted, by a pass over the zones for each. The map says
 // where everything stands.
+#![tactic(auto)]
+
 ghost use Rattle.std.specs.Prelude.{◌≡◌, ◌<◌};
 ghost use Rattle.rules.specs.Network.{network_with};
 ghost use Rattle.rules.specs.Calls.{arcs_of};
@@ -13,7 +15,7 @@ use withdrawn::stamp;
 use workmap::{KindsAt, ListsAt};
 
 // How many components are sources, sinks and alone.
-#[derive(Drop)]
+#[derive(Clone, Copy)]
 pub struct Counts {
     pub sources: usize,
     pub sinks: usize,
