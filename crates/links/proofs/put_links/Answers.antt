@@ -25,6 +25,26 @@ overflow_add-q c =
     let P = c.requires.placed in
     omega (arith, P.room, P.w_apart, P.w_fits, P.why_fits)
 
+pub overflow_add-result : goal.overflow_add-result
+overflow_add-result c =
+    let a = c.args in
+    let m = c.put_stations-stations in
+    let few =
+    all_few a.work.now a.n a.p c.requires.placed m.new.work m.result m.ensures c.requires
+    (a.n.pairs - c.one_of.result) (m.result - c.one_of-2.result)
+    (omega (arith, c.one_of.ensures)) (omega (arith, c.one_of-2.ensures))
+    in
+    omega (arith, few, c.requires.placed.why_fits)
+
+pub returns : goal.returns
+returns c =
+    let a = c.args in
+    let m = c.put_stations-stations in
+    linked a.work.now a.n a.p c.requires.placed m.new.work m.result m.ensures c.requires
+    (a.n.pairs - c.one_of.result) (m.result - c.one_of-2.result)
+    (omega (arith, c.one_of.ensures)) (omega (arith, c.one_of-2.ensures))
+    c.join.new.work c.join-2.new.work c.join-3.new.work c.join.ensures c.join-2.ensures c.join-3.ensures
+
 -- there is room for the rings
 pub join-requires : goal.join-requires
 join-requires c =
@@ -57,23 +77,3 @@ join-requires-3 c =
     (a.n.pairs - c.one_of.result) (m.result - c.one_of-2.result)
     (omega (arith, c.one_of.ensures)) (omega (arith, c.one_of-2.ensures))
     c.join-2.new.work (omega (arith, c.join-2.auto.work, c.join.auto.work, long))
-
-pub overflow_add-result : goal.overflow_add-result
-overflow_add-result c =
-    let a = c.args in
-    let m = c.put_stations-stations in
-    let few =
-    all_few a.work.now a.n a.p c.requires.placed m.new.work m.result m.ensures c.requires
-    (a.n.pairs - c.one_of.result) (m.result - c.one_of-2.result)
-    (omega (arith, c.one_of.ensures)) (omega (arith, c.one_of-2.ensures))
-    in
-    omega (arith, few, c.requires.placed.why_fits)
-
-pub returns : goal.returns
-returns c =
-    let a = c.args in
-    let m = c.put_stations-stations in
-    linked a.work.now a.n a.p c.requires.placed m.new.work m.result m.ensures c.requires
-    (a.n.pairs - c.one_of.result) (m.result - c.one_of-2.result)
-    (omega (arith, c.one_of.ensures)) (omega (arith, c.one_of-2.ensures))
-    c.join.new.work c.join-2.new.work c.join-3.new.work c.join.ensures c.join-2.ensures c.join-3.ensures
