@@ -1,5 +1,7 @@
 // SKELETON: the skeleton of a network, in two lent lists. The arcs are arranged in the work memory and the zones get
 // their names; the arcs of the skeleton are put out in no order, and then sorted by tail and head.
+#![tactic(auto)]
+
 ghost use Rattle.rules.specs.Answers.{skeleton_told};
 ghost use Rattle.rules.specs.Promises.{SkeletonPromise};
 ghost use Rattle.skeleton.specs.Promises.{Sketchable, Sketched};
