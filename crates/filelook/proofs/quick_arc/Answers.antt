@@ -15,20 +15,5 @@ returns c = (
       c.quick_number-head.ensures.plain,
 )
 
-pub returns-then-size-lt4 : goal.returns-then-size-lt4
-returns-then-size-lt4 c = tt
-
-pub returns-then-size-at : goal.returns-then-size-at
-returns-then-size-at c = tt
-
 pub quick_number-head-requires : goal.quick_number-head-requires
 quick_number-head-requires c = omega (arith, c.quick_number-tail.ensures.near)
-
-pub returns-then-zones-t : goal.returns-then-zones-t
-returns-then-zones-t c = tt
-
-pub returns-then-zones-h : goal.returns-then-zones-h
-returns-then-zones-h c = tt
-
-pub returns-then-t-h : goal.returns-then-t-h
-returns-then-t-h c = tt
