@@ -1,5 +1,7 @@
 // The survey of a network: its rows are arranged both ways, its components named, and the names of each kind listed,
 // the withdrawn zones left out.
+#![tactic(auto)]
+
 ghost use Rattle.rules.specs.Calls.{handed_with};
 ghost use Rattle.withdrawn.specs.Withdrawn.{ReadyWith};
 ghost use Rattle.survey.specs.Survey.{Surveyed};
