@@ -6,7 +6,7 @@
 --   spreadable_one, searched     the search with the mark 1 and an empty queue
 -- A marked zone had its mark before, or stands on the queue. Where all of the queue is gone through the marks are
 -- closed under entries, so a run that begins at a mark never leaves them. Assumes nothing.
-use mathlib.Core.Path.{◌≡◌, refl, sym, ap, ◌∙◌}
+use mathlib.Core.Path.{◌≡◌, refl, sym, ◌∙◌}
 use mathlib.Core.Logic.{inl, inr}
 use mathlib.Core.List.{List}
 use Prim.Native.Nat.{ℕ, ◌+◌, ◌≤◌, ◌<◌}

@@ -2,7 +2,7 @@
 --   visit_none, visit_more, visit_done     no turn yet, one turn more, and the end of the row
 --   visit_join                             a turn is two stores, for which there is room
 -- A turn is one zone met, of any search for which runs of entries lead to the zones of the row. Assumes nothing.
-use mathlib.Core.Path.{◌≡◌, refl, sym, ap, ◌∙◌}
+use mathlib.Core.Path.{◌≡◌, refl, sym, ◌∙◌}
 use mathlib.Core.Logic.{inl, inr}
 use mathlib.Core.List.{List}
 use Prim.Native.Nat.{ℕ, ◌+◌, ◌≤◌, ◌<◌}
