@@ -1,5 +1,7 @@
 // Laying out a plan in lent work memory: a network that is not strong is surveyed, and its sources and sinks are
 // connected on the side on which the rule runs.
+#![tactic(auto)]
+
 ghost use Rattle.std.specs.Prelude.{◌≡◌, min, max};
 ghost use Rattle.rules.specs.Calls.{handed_with};
 ghost use Rattle.withdrawn.specs.Withdrawn.{ReadyWith};
