@@ -3,7 +3,7 @@
  *
  * Six calls: read a network file, write one, say whether a network is strong,
  * say whether a zone reaches another, make the skeleton, make the plan. Link
- * with libclib.a, which `rt staticlib clib` writes to target/staticlib.
+ * with crates/clib/out/libclib.a, which `rt lib` in crates/clib makes.
  *
  * A network is a zone count, a list of tails, a list of heads and a list of
  * withdrawn numbers: arc i goes from zone tails[i] to zone heads[i], and the

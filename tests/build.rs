@@ -2,7 +2,7 @@
 //! bench; and, for the bench, an earlier one if there is one to time beside it.
 //!
 //! The directory is taken from LINKPLAN_LIB; without it, it is
-//! `target/staticlib` of the repository, where `rt staticlib clib` puts it. The
+//! `crates/clib/out` of the repository, where `rt lib` in crates/clib puts it. The
 //! earlier one is `libbefore.a` in the directory that LINKPLAN_BEFORE names;
 //! `bench/run --before` makes it.
 
@@ -14,9 +14,9 @@ fn main() {
     println!("cargo:rustc-check-cfg=cfg(before)");
     let directory = match std::env::var_os("LINKPLAN_LIB") {
         Some(given) => PathBuf::from(given),
-        None => PathBuf::from(env!("CARGO_MANIFEST_DIR")).join("../target/staticlib"),
+        None => PathBuf::from(env!("CARGO_MANIFEST_DIR")).join("../crates/clib/out"),
     };
-    link(&directory, "clib", "build it with `rt staticlib clib`, or set LINKPLAN_LIB to its directory");
+    link(&directory, "clib", "build it with `rt lib` in crates/clib, or set LINKPLAN_LIB to its directory");
     // Said at the start of a run, so that no run is taken for another.
     println!("cargo:rustc-env=LINKPLAN_ARCHIVE={}", directory.join("libclib.a").display());
     if let Some(directory) = std::env::var_os("LINKPLAN_BEFORE") {

@@ -4,9 +4,9 @@
  * to standard error. The arguments, if there are any, are the numbers of zones
  * that are withdrawn, ascending.
  *
- * Build, from this directory, once `rt staticlib clib` has been run:
+ * Build, from this directory, once `rt lib` has been run in crates/clib:
  *
- *   cc -O2 -o plan plan.c ../../target/staticlib/libclib.a
+ *   cc -O2 -o plan plan.c ../../crates/clib/out/libclib.a
  *
  * Try:
  *

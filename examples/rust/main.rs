@@ -3,9 +3,9 @@
 //! standard error. The arguments, if there are any, are the numbers of zones
 //! that are withdrawn, ascending.
 //!
-//! Build, from this directory, once `rt staticlib clib` has been run:
+//! Build, from this directory, once `rt lib` has been run in crates/clib:
 //!
-//!   rustc --edition 2021 -O -o plan main.rs -L native=../../target/staticlib
+//!   rustc --edition 2021 -O -o plan main.rs -L native=../../crates/clib/out
 //!
 //! Try:
 //!
