@@ -1,6 +1,6 @@
 use native.Mathlib.Omega.{arith}
 use mathlib.Core.Path.{◌≡◌, sym, ◌∙◌}
-use Rattle.kinds.proofs.Turns.{list_none, list_room, list_long, list_few, list_skip, list_put}
+use Rattle.kinds.proofs.Turns.{list_none, list_room, list_few, list_skip, list_put}
 use Rattle.kinds.proofs.list.Goals as goal
 use Rattle.kinds.proofs.list.Goals.{then-of_kind, else-of_kind}
 
