@@ -1,5 +1,7 @@
 // PLAN: the smallest set of links that makes a network strong, in three lent lists. The plan is laid out in lent work
 // memory and then copied out.
+#![tactic(auto)]
+
 ghost use Rattle.rules.specs.Answers.{plan_told};
 ghost use Rattle.rules.specs.Promises.{PlanPromise};
 
