@@ -1,5 +1,7 @@
 // A plan for records, as a draft: it stands in the work memory, in columns, and is handed out from there. The tests
 // and the laying come first; once the records are stored, the work memory is cleared.
+#![tactic(auto)]
+
 ghost use Rattle.std.specs.Prelude.{◌≡◌};
 ghost use Rattle.drafts.specs.Drafts.{need_of, Finishable, finished, Drafted};
 
