@@ -33,8 +33,7 @@ use Rattle.buffer.specs.Put.{put, Written}
 use Rattle.lines.specs.Lines.{lines_of}
 use Rattle.text.specs.Texts.{plan_text, Putable, figures, answer_lines}
 use Rattle.text.proofs.TextLaws.{figures_of, plan_put}
-use Rattle.io.specs.Counts.{IsPrefixLen}
-use Rattle.responding.specs.Buffers.{handed_lines, Responded}
+use Rattle.responding.specs.Buffers.{IsPrefixLen, handed_lines, Responded}
 
 -- bytes put at the start of a buffer are its first bytes, and where they are those that are printed, all is done
 pub responded : {file out s after : List ℕ} {r : ℕ} → s ≡ printed file → Written out 0 s r after

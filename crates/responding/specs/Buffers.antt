@@ -2,7 +2,8 @@
 --   PlanLent ..      a network that passes its tests, with room for the lines of its plan
 --   handed_lines ..   the lines of the plan of a network that is handed in
 --   Responded ..      what is promised of the whole: the bytes that linkplan writes, and how many they are
-use Rattle.std.specs.Prelude.{ℕ, ◌≤◌, ◌≡◌, List, [], length}
+--   IsPrefixLen n xs  so many bytes stand at the start of a buffer
+use Rattle.std.specs.Prelude.{ℕ, ◌≤◌, ◌≡◌, List, [], length, take}
 use Rattle.std.proofs.Math.Option.{none}
 use Rattle.rules.specs.Lists.{over}
 use Rattle.rules.specs.Calls.{arcs_of, first_trouble, network_tests}
@@ -13,6 +14,10 @@ use Rattle.rules.specs.Text.{plan_lines, printed}
 pub record PlanLent (n : ℕ) (ts hs out : List ℕ) : Type 0 where
   pub fine : first_trouble (network_tests n ts hs []) ≡ none
   pub lines_fit : 20000 ≤ length out
+
+-- the buffer xs has n bytes or more, and so its first n are n
+abbrev pub IsPrefixLen : ℕ → List ℕ → Type 0
+IsPrefixLen n xs = (n ≤ length xs) × (n ≡ length (take n xs))
 
 -- the lines of the plan of the network of n zones, tails ts and heads hs
 abbrev pub handed_lines : ℕ → List ℕ → List ℕ → List ℕ
