@@ -54,3 +54,8 @@ module _ (s : List ℕ) (n at : ℕ) where
         → got (tail ⟶ head) next ≡ arc_at s n at
     unfolding arc_at
     arc_taken {head} f h = rw (e, f, ne_eqb tail head h)
+
+-- The cases of a zone number, and those of an arc.
+pub ruleset zone_cases = (zone_refused, zone_range, zone_taken)
+
+pub ruleset arc_cases = (arc_refused, arc_headless, arc_self, arc_taken)

@@ -22,6 +22,7 @@ pub enum ArcRead {
 }
 
 // A zone number, which is below the zone count, or else refused with this kind.
+#[tactic(auto, using(crate::proofs::ArcCases::zone_cases))]
 fn zone(s: &[u8], c: Cursor, zones: usize, kind: TroubleKind) -> NumberRead
     ensures { number_reading result ≡ zone_at s.now kind zones c.at }
 {
@@ -40,6 +41,7 @@ fn zone(s: &[u8], c: Cursor, zones: usize, kind: TroubleKind) -> NumberRead
 }
 
 // An arc: its tail, its head, and the two distinct. RANGE is said of the tail, HEAD of the head.
+#[tactic(auto, using(crate::proofs::ArcCases::arc_cases))]
 pub fn arc(s: &[u8], c: Cursor, zones: usize) -> ArcRead
     ensures { arc_reading result ≡ arc_at s.now zones c.at }
 {

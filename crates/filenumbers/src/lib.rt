@@ -32,6 +32,7 @@ pub fn number_refused(kind: TroubleKind, place: usize) -> NumberRead
 
 impl Cursor {
     // The number at the cursor.
+    #[tactic(auto, unfolding(rules::specs::Number::number_at))]
     pub fn number(self, s: &[u8]) -> NumberRead
         ensures { number_reading result ≡ number_at s.now self.at }
     {
@@ -49,6 +50,7 @@ impl Cursor {
 }
 
 // The second group of the number at `at`, after one that is worth `low`.
+#[tactic(auto, unfolding(rules::specs::Number::second_group))]
 fn second(s: &[u8], at: usize, low: usize) -> NumberRead
     requires { (low < 128) × (at < length s.now) }
     ensures { number_reading result ≡ second_group s.now at low }
@@ -67,6 +69,7 @@ fn second(s: &[u8], at: usize, low: usize) -> NumberRead
 }
 
 // The third group of the number that starts at `start`, after two that are worth `low`.
+#[tactic(auto, unfolding(rules::specs::Number::third_group))]
 fn third(s: &[u8], start: usize, low: usize) -> NumberRead
     requires { (low < 16384) × (start + 1 < length s.now) }
     ensures { number_reading result ≡ third_group s.now start low }

@@ -8,9 +8,9 @@ pub returns : goal.returns
 returns c = (
   c.quick_number-tail.result.value ⟶ c.quick_number-head.result.value,
   plain_arc c.args.s.now c.args.at c.requires
-      c.if-zones-t.false
-      c.if-zones-h.false
-      c.if-t-h.false
+      (omega arith)
+      (omega arith)
+      (λ e. omega arith)
       c.quick_number-tail.ensures.plain
       c.quick_number-head.ensures.plain,
 )
