@@ -1,5 +1,7 @@
 // The C interface: each call of linkplan under a C name, with its answer in eight numbers. include/linkplan.h says the
 // same to a C programmer.
+#![tactic(auto)]
+
 ghost use Rattle.rules.specs.Promises.{ReadPromise, WritePromise, StrongPromise, ReachPromise, SkeletonPromise};
 ghost use Rattle.rules.specs.Promises.{PlanPromise, CPromise};
 
