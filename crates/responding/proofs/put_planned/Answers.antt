@@ -8,12 +8,12 @@ pub put_answer-requires : goal.put_answer-requires
 put_answer-requires c =
     let most = zeros_long 1024 in
     (planned _ _ _ _ _ _ _ (plan_passes _ _ _ _ _ _ _ _ c.requires.fine (zeros_long 28672) most most most)
-    c.plan.result c.args.out.now c.requires.lines_fit c.plan.ensures).0
+    c.plan-answer.result c.args.out.now c.requires.lines_fit c.plan-answer.ensures).0
 
 pub returns : goal.returns
 returns c =
     let most = zeros_long 1024 in
     rw
     (planned _ _ _ _ _ _ _ (plan_passes _ _ _ _ _ _ _ _ c.requires.fine (zeros_long 28672) most most most)
-    c.plan.result c.args.out.now c.requires.lines_fit c.plan.ensures).1
+    c.plan-answer.result c.args.out.now c.requires.lines_fit c.plan-answer.ensures).1
     at c.put_answer.ensures
