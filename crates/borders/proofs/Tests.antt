@@ -3,7 +3,7 @@
 --   keep_keep     what passes two tests, one after the other, passes both
 --   keep_put, keep_skip   what passes a test among one number more, where it passes and where it does not
 --   keep_few      no more pass than there are
---   yes_zero, yes_one   a test's 1 or 0, compared;   both-ways   two tests, either way round
+--   yes_zero, yes_one   a test's 1 or 0, compared;   both_ways   two tests, either way round
 --   own_name_no, own_entered_no, own_exited   the three tests of a kind, one after the other
 -- Assumes nothing.
 use mathlib.Core.Path.{◌≡◌, refl, sym, ap, ◌∙◌}

@@ -1,7 +1,7 @@
 -- What noting the components' kinds asks for and leaves in lent work memory, at the places k that the map names.
---   ends_apart f a b c      the zone a has the name c and the zone b has another, where f gives the names
+--   ends_apart f a b c   the zone a has the name c and the zone b has another, where f gives the names
 --   comes, goes          the arc e comes into the component c from another; it goes out of c to another
---   KindsRoom k w             names and regions lie in the memory, and each zone's name is a zone
+--   KindsRoom k w        names and regions lie in the memory, and each zone's name is a zone
 --   Noted, Marking       the memory after one arc; after the first i arcs
 --   Markable             the arcs can be noted
 --   own_kind k x y w z   z is a name, with x where it stands that it is entered and y where it stands that it is left

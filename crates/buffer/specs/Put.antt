@@ -1,6 +1,6 @@
 -- What it means that bytes are put into a lent buffer.
 --   put out at s                 the buffer out with the bytes s from place `at` on
---   TextRoom out at s                s fits into out from `at` on
+--   TextRoom out at s            s fits into out from `at` on
 --   Written out at s end after   s was put into out from `at` on, up to place `end`, and the buffer is now `after`
 -- Assumes nothing.
 use Rattle.std.specs.Prelude.{ℕ, ◌+◌, ◌≤◌, ◌≡◌, List, ◌++◌, length, take, drop}

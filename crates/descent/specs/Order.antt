@@ -2,8 +2,8 @@
 --   d v              when the zone v was seen, counted from 1
 --   order i          the zone that ended as number i, counted from 0
 --   Pair E d x z     what holds of x and z where x ended before z
---   EndedOrdered E d o n  it holds of the first n zones of the order, two by two
---   InOrder o k v     v stands in the order before place k
+--   EndedOrdered E d o n   it holds of the first n zones of the order, two by two
+--   InOrder o k v    v stands in the order before place k
 -- The property speaks of two zones and one entry, and of no run that keeps clear of a set of zones.
 use Rattle.std.specs.Prelude.{◌≡◌, ◌⊎◌, ℕ, ◌≤◌, ◌<◌}
 use Rattle.arranged.specs.Rows.{Run}

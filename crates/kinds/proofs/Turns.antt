@@ -1,6 +1,6 @@
 -- One zone more is tried for a list of names.
 --   kind_kept, room_kept    names that are put leave what was noted, and the zones' names
---   list_none               no zone is tried yet;   list_room, list-fits   one more may be tried
+--   list_none               no zone is tried yet;   list_room   one more may be tried
 --   list_skip, list_put     one more is tried, and it is not of the kind, or it is
 --   listable_next, list_same   one list after the other: the second is as if it were the first
 -- The idea: what is put lies apart from what the tests read. Assumes nothing.

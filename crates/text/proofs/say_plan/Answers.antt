@@ -41,15 +41,6 @@ put_lines-b-requires-clause-text_room c =
     (λ i. (c.type_inv.to i).fits) c.requires.text_room in
     room_first (word "done\n") (room_rest room c.put_head-a.ensures)
 
-pub put_bytes-requires : goal.put_bytes-requires
-unfolding word
-put_bytes-requires c =
-    let a = c.args in
-    let room =
-    whole a.out.now a.at a.f a.from.now a.to.now a.why.now (λ i. (c.type_inv.from i).fits)
-    (λ i. (c.type_inv.to i).fits) c.requires.text_room in
-    room_rest (room_rest room c.put_head-a.ensures) c.put_lines-b.ensures
-
 pub returns : goal.returns
 unfolding plan_text word
 returns c =
@@ -59,3 +50,12 @@ returns c =
     (λ i. (c.type_inv.to i).fits) c.requires.text_room in
     written_then room c.put_head-a.ensures
     (written_then (room_rest room c.put_head-a.ensures) c.put_lines-b.ensures c.put_bytes.ensures)
+
+pub put_bytes-requires : goal.put_bytes-requires
+unfolding word
+put_bytes-requires c =
+    let a = c.args in
+    let room =
+    whole a.out.now a.at a.f a.from.now a.to.now a.why.now (λ i. (c.type_inv.from i).fits)
+    (λ i. (c.type_inv.to i).fits) c.requires.text_room in
+    room_rest (room_rest room c.put_head-a.ensures) c.put_lines-b.ensures
