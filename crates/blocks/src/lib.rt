@@ -60,7 +60,7 @@ fn sweep(
 // One block, in a table that is cleared first. Answers the next free place behind `put`.
 fn block(work: &mut [u16], b: Block, tails: &mut [u16], heads: &mut [u16], put: usize) -> usize
     requires block_laid { BlockLaid work.old b }
-    requires first_bound { b.first ≤ 1024 }
+    requires first_le_1024 { b.first ≤ 1024 }
     requires arcs_fit { ArcsFit tails.old heads.old put
         (block_arcs (cell work.old b.tops) work.old b.places b.first (row_heads work.old b)) }
     ensures { BlockDone work.old work.new b tails.old

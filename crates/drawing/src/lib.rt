@@ -17,7 +17,7 @@ use workmap::Map;
 // Lays out the network of the components: the places of the names, and the rows of the arcs between components.
 fn lay_table(m: Map, places: usize, tails: &[u16], heads: &[u16], work: &mut [u16])
     requires named { Named work.old m.zones tails.now heads.now places }
-    requires m_value { m ≡ map_of m.zones m.arcs }
+    requires m_is_map { m ≡ map_of m.zones m.arcs }
     ensures { Tabled work.old work.new m.zones tails.now
         heads.now places }
 {
@@ -38,8 +38,8 @@ pub fn draw(
     work: &mut [u16],
 ) -> usize
     requires named { Named work.old m.zones tails.now heads.now places }
-    requires tails_in_bounds { (length tails.now ≤ length from.old) × (length tails.now ≤ length to.old) }
-    requires m_value { m ≡ map_of m.zones m.arcs }
+    requires lists_have_room { (length tails.now ≤ length from.old) × (length tails.now ≤ length to.old) }
+    requires m_is_map { m ≡ map_of m.zones m.arcs }
     ensures { Drawn work.old work.new m.zones tails.now
         heads.now from.old to.old from.new to.new result }
 {

@@ -38,7 +38,7 @@ pub fn take(
     at: usize,
 ) -> usize
     requires block_laid { BlockLaid work.old b }
-    requires j_lt_places { (j < b.places) × (k < b.places) }
+    requires j_and_k_lt_places { (j < b.places) × (k < b.places) }
     requires arcs_fit { ArcsFit tails.old heads.old at
         (taken_arcs (cell work.old b.tops) work.old b.first j k) }
     ensures { HeadTaken work.old work.new b j k tails.old

@@ -20,7 +20,7 @@ pub block-next-requires : goal.block-next-requires
 block-next-requires c =
     record {
       block_laid = blocking_laid c.requires.block_laid c.loop-first.invariant c.loop-first-test.true;
-      first_bound = blocking_first c.requires.block_laid c.loop-first.invariant c.loop-first-test.true;
+      first_le_1024 = blocking_first c.requires.block_laid c.loop-first.invariant c.loop-first-test.true;
       arcs_fit = blocking_room c.requires.block_laid c.loop-first.invariant c.loop-first-test.true
           c.requires.arcs_fit;
     }

@@ -12,24 +12,23 @@ use Rattle.rings.specs.Rings.{rings_of, RingsLent, RingsPut}
 use Rattle.uniting.specs.Uniting.{BlockLaid}
 use Rattle.blocks.specs.Sweeps.{block_of, crossing_arcs}
 use Rattle.blocks.specs.Contract.{CrossingsPut}
-use Rattle.drawing.specs.Drawing.{Named}
 use Rattle.drawing.proofs.Parts.{rings_asked, rings_fit, named_then, cross_fit, drawn}
 use Rattle.drawing.proofs.draw.Goals.{After-put_rings-rings, Start}
 use Rattle.drawing.proofs.draw.Goals as goal
 
 -- the rings, and the network of the components, as the map has them
 rings_made : (s : Start) → s.args.m.rings ≡ rings_at s.args.m.zones
-rings_made s = ap (λ (m : Map). m.rings) s.requires.m_value
+rings_made s = ap (λ (m : Map). m.rings) s.requires.m_is_map
 
 table_made : (s : Start) → s.args.m.table ≡ table_at s.args.m.zones
-table_made s = ap (λ (m : Map). m.table) s.requires.m_value
+table_made s = ap (λ (m : Map). m.table) s.requires.m_is_map
 
 rings_put : (c : After-put_rings-rings) →
     let a = c.args in
     let l = c.put_rings-rings.new in
     RingsPut a.work.now l.work (rings_at a.m.zones) a.from.now a.to.now l.tails l.heads 0 c.put_rings-rings.result
 rings_put c =
-    let rings_made : c.args.m.rings ≡ rings_at c.args.m.zones = ap (λ (m : Map). m.rings) c.requires.m_value in
+    let rings_made : c.args.m.rings ≡ rings_at c.args.m.zones = ap (λ (m : Map). m.rings) c.requires.m_is_map in
     let a = c.args in
     let l = c.put_rings-rings.new in
     subst
@@ -44,7 +43,7 @@ returns c =
     let l = c.put_rings-rings.new in
     let k = c.cross.new in
     drawn a.work.now a.m.zones a.tails.now a.heads.now a.places c.requires.named
-    a.from.now a.to.now c.requires.tails_in_bounds.0 c.requires.tails_in_bounds.1
+    a.from.now a.to.now c.requires.lists_have_room.0 c.requires.lists_have_room.1
     l.work l.tails l.heads c.put_rings-rings.result (rings_put (goal.at.returns c).After-put_rings-rings)
     c.lay_table.new.work c.lay_table.ensures
     k.work k.tails k.heads c.cross.result
@@ -61,12 +60,12 @@ put_rings-rings-requires c =
     record {
       rings_lent = subst (λ (R : RingsAt). RingsLent a.work.now R) e
           (rings_asked a.work.now a.m.zones a.tails.now a.heads.now a.places c.requires.named
-          a.from.now a.to.now c.requires.tails_in_bounds.0 c.requires.tails_in_bounds.1);
+          a.from.now a.to.now c.requires.lists_have_room.0 c.requires.lists_have_room.1);
       arcs_fit = subst
           (λ (R : RingsAt).
           ArcsFit a.from.now a.to.now 0 (rings_of (cell a.work.now R.names) (span 0 R.zones))) e
           (rings_fit a.work.now a.m.zones a.tails.now a.heads.now a.places c.requires.named
-          a.from.now a.to.now c.requires.tails_in_bounds.0 c.requires.tails_in_bounds.1);
+          a.from.now a.to.now c.requires.lists_have_room.0 c.requires.lists_have_room.1);
     }
 
 pub lay_table-requires : goal.lay_table-requires
@@ -76,10 +75,10 @@ lay_table-requires c =
     record {
       named =
           named_then a.work.now a.m.zones a.tails.now a.heads.now a.places c.requires.named
-          a.from.now a.to.now c.requires.tails_in_bounds.0 c.requires.tails_in_bounds.1
+          a.from.now a.to.now c.requires.lists_have_room.0 c.requires.lists_have_room.1
           l.work l.tails l.heads c.put_rings-rings.result
           (rings_put (goal.at.lay_table-requires c).After-put_rings-rings);
-      m_value = c.requires.m_value;
+      m_is_map = c.requires.m_is_map;
     }
 
 pub cross-requires : goal.cross-requires
@@ -94,7 +93,7 @@ cross-requires c =
       arcs_fit = subst
           (λ (T : TableAt). ArcsFit l.tails l.heads c.put_rings-rings.result (crossing_arcs w₂ T a.places)) e
           (cross_fit a.work.now a.m.zones a.tails.now a.heads.now a.places c.requires.named
-          a.from.now a.to.now c.requires.tails_in_bounds.0 c.requires.tails_in_bounds.1
+          a.from.now a.to.now c.requires.lists_have_room.0 c.requires.lists_have_room.1
           l.work l.tails l.heads c.put_rings-rings.result
           (rings_put (goal.at.cross-requires c).After-put_rings-rings) w₂ c.lay_table.ensures);
     }

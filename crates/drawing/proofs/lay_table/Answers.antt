@@ -15,15 +15,15 @@ use Rattle.drawing.proofs.lay_table.Goals as goal
 
 -- the places of the components, and the rows, as the map has them
 places_made : (s : Start) → s.args.m.places ≡ places_at s.args.m.zones
-places_made s = ap (λ (m : Map). m.places) s.requires.m_value
+places_made s = ap (λ (m : Map). m.places) s.requires.m_is_map
 
 rows_made : (s : Start) → s.args.m.table.rows ≡ (table_at s.args.m.zones).rows
-rows_made s = ap (λ (m : Map). m.table.rows) s.requires.m_value
+rows_made s = ap (λ (m : Map). m.table.rows) s.requires.m_is_map
 
 noted : (c : After-note_places) → let a = c.args in PlacesNoted a.work.now c.note_places.new.work
     (places_at a.m.zones) a.places
 noted c =
-    let places_made : c.args.m.places ≡ places_at c.args.m.zones = ap (λ (m : Map). m.places) c.requires.m_value in
+    let places_made : c.args.m.places ≡ places_at c.args.m.zones = ap (λ (m : Map). m.places) c.requires.m_is_map in
     let a = c.args in
     subst
     (λ (P : PlacesAt). PlacesNoted a.work.now c.note_places.new.work P a.places)

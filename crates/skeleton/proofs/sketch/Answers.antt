@@ -111,8 +111,8 @@ draw-count-requires c =
           (named_here a.zones a.tails.now a.heads.now a.work.now c.ready.new.work
           c.requires.ready (readied_there here.After-ready)
           c.name_all-places.new.work c.name_all-places.result (components_here here.After-name_all-places));
-      tails_in_bounds = (c.requires.tails_room, c.requires.heads_room);
-      m_value = is_map;
+      lists_have_room = (c.requires.tails_room, c.requires.heads_room);
+      m_is_map = is_map;
     }
 
 pub sort-requires : goal.sort-requires

@@ -39,8 +39,8 @@ returns-then-not-is_fresh c =
 pub is_fresh-requires : goal.is_fresh-requires
 is_fresh-requires c =
     let P = c.requires.block_laid in (
-      omega (arith, c.requires.j_lt_places.0, P.small),
-      omega (arith, row_room 8 c.args.b.places c.args.j c.requires.j_lt_places.0, P.tops_behind, P.tops_fit),
+      omega (arith, c.requires.j_and_k_lt_places.0, P.small),
+      omega (arith, row_room 8 c.args.b.places c.args.j c.requires.j_and_k_lt_places.0, P.tops_behind, P.tops_fit),
     )
 
 pub overflow_sub-bit : goal.overflow_sub-bit
@@ -60,7 +60,7 @@ set_bit-requires c =
     let P = c.requires.block_laid in
     omega (
       arith,
-      row_room 8 a.b.places a.j c.requires.j_lt_places.0,
+      row_room 8 a.b.places a.j c.requires.j_and_k_lt_places.0,
       P.tops_behind,
       P.tops_fit,
       fresh_true a.work.now a.b.first a.j a.k (hit (goal.at.set_bit-requires c).Else-not-is_fresh),

@@ -40,7 +40,7 @@ take-next-requires c =
     record {
       block_laid = note_laid c.requires.block_laid c.requires.j_lt_places c.loop-rest.invariant
           (omega arith) c.wide-k.result c.wide-k.ensures;
-      j_lt_places = (
+      j_and_k_lt_places = (
         c.requires.j_lt_places,
         note_low c.requires.block_laid c.requires.j_lt_places c.loop-rest.invariant
             (omega arith) c.wide-k.result c.wide-k.ensures,
