@@ -2,18 +2,43 @@
 // `respond` goes from the bytes that were read to the bytes to write, in a lent buffer; `main` only reads and writes.
 #![tactic(auto)]
 
+ghost use Rattle.std.specs.Prelude.{◌≤◌, length};
+
 use responding::respond;
-use std::io;
-use std::io::Read;
+use std::io::{ErrorKind, Read};
+
+// Reads until the list is full or the input ends, and says how much was read. A read that fails is the end of the
+// input; one that was interrupted is made again.
+fn read_full(reader: &mut impl Read, into: &mut [u8]) -> usize
+    ensures { result ≤ length into.new }
+{
+    let mut got = 0;
+    for _ in 0..u64::MAX {
+        if into.len() <= got {
+            return got;
+        }
+        match reader.read(&mut into[got..]) {
+            Ok(0) => return got,
+            Ok(n) => got += n,
+            Err(e) => {
+                if e.kind() != ErrorKind::Interrupted {
+                    return got;
+                }
+            }
+        }
+    }
+    got
+}
 
 // 16,389 bytes decide any input.
-fn main(rt: HostRuntime) -> io::Result<()> {
-    let mut input = Vec::with_capacity(rt.alloc(), 16389)?;
+fn main(rt: HostRuntime) {
+    let mut input = [0u8; 16389];
     let mut out = [0u8; 20000];
-    rt.reader().take(16389).read_to_end(&mut input)?;
-    let length = respond(&input, &mut out);
+    let mut reader = rt.reader();
+    let got = read_full(&mut reader, &mut input);
+    let length = respond(&input[..got], &mut out);
     if rt.write_all(&out[..length]).is_err() {
-        eprintln!(rt; "linkplan: the output could not be written whole")?;
+        // Where nobody can be told either, nothing is left to do.
+        let _ = eprintln!(rt; "linkplan: the output could not be written whole");
     }
-    Ok(())
 }
