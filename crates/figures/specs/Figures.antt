@@ -1,7 +1,7 @@
 -- The numbers of a network's plan, and the answer that carries them.
 --   Figures N l   l has the numbers of the plan of N: s, t, q, p and the number of links
 --   Carried N r   the answer r carries them
-use Rattle.std.specs.Prelude.{◌≡◌, ℕ, length}
+use Rattle.std.specs.Prelude.{◌≡◌, length}
 use Rattle.rules.specs.declared.PlanAnswer.{PlanAnswer}
 use Rattle.rules.specs.Answers.{done, plan_told}
 use Rattle.rules.specs.Network.{Network}

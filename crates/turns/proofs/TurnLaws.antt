@@ -6,7 +6,7 @@
 --   turned_nothing, turned_found   the turn, where no sink has a mark, and where one has
 -- Idea: the marks are those of a search over the rows, whose runs of entries are the runs of arcs, so a mark is the
 -- test of reach, and the first marked sink the one that `pick` takes. Assumes nothing.
-use mathlib.Core.Path.{◌≡◌, refl, sym, ap, ◌∙◌}
+use mathlib.Core.Path.{◌≡◌, refl, sym, ◌∙◌}
 use mathlib.Core.Logic.{inl, inr, ⊎_elim}
 use mathlib.Core.Bool.{true, false}
 use mathlib.Core.List.{List}

@@ -16,23 +16,21 @@ returns-in-Refused c =
 pub map_of-m-requires : goal.map_of-m-requires
 map_of-m-requires c =
     let a = c.args in
-    let r =
-    draft_ready a.zones a.tails.now a.heads.now a.gone.now a.room a.work.now (sym c.records-t.ensures ∙ ap tested_trouble c.in_default.is)
-    in
+    let none = sym c.records-t.ensures ∙ ap tested_trouble c.in_default.is in
+    let r = draft_ready a.zones a.tails.now a.heads.now a.gone.now a.room a.work.now none in
     let f = r.0.ready.fine in
     record { zones_bound = f.accepted.zones_most; arcs_bound = fine_few f }
-
-pub lay-requires : goal.lay-requires
-lay-requires c =
-    let a = c.args in
-    let r =
-    draft_ready a.zones a.tails.now a.heads.now a.gone.now a.room a.work.now (sym c.records-t.ensures ∙ ap tested_trouble c.in_default.is)
-    in
-    rw c.map_of-m.ensures r.0
 
 pub returns : goal.returns
 returns c =
     let a = c.args in
+    let none = sym c.records-t.ensures ∙ ap tested_trouble c.in_default.is in
     drafted_done a.zones a.tails.now a.heads.now a.gone.now a.room a.work.now c.map_of-m.result
-    c.lay.new.work c.lay.result c.answer_of.result c.map_of-m.ensures (sym c.records-t.ensures ∙ ap tested_trouble c.in_default.is)
-    c.lay.ensures c.answer_of.ensures
+    c.lay.new.work c.lay.result c.answer_of.result c.map_of-m.ensures none c.lay.ensures c.answer_of.ensures
+
+pub lay-requires : goal.lay-requires
+lay-requires c =
+    let a = c.args in
+    let none = sym c.records-t.ensures ∙ ap tested_trouble c.in_default.is in
+    let r = draft_ready a.zones a.tails.now a.heads.now a.gone.now a.room a.work.now none in
+    rw c.map_of-m.ensures r.0

@@ -1,7 +1,6 @@
 -- `laying::lay` meets its contract: a strong network has no link, and on any other the rule runs on the side that was
 -- picked. Assumes nothing.
 use mathlib.Core.Path.{refl}
-use Prim.Native.Nat.{◌+◌, ◌≤◌}
 use Rattle.laying.proofs.Laying.{own_map, sums_small, laid_strong, rule_able, rule_laid}
 use native.Mathlib.Omega.{arith}
 use Rattle.laying.proofs.lay.Goals as goal

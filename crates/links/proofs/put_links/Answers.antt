@@ -1,9 +1,7 @@
 -- `links::put_links` meets its contract: the stations are put, and then the rings, the chain and the links back one
 -- behind the other. There are as many rings as pairs, less one, and as many steps of the chain as stations, less one.
 -- Assumes nothing.
-use Prim.Native.Nat.{ℕ, ◌+◌, ◌-◌, ◌≤◌}
-use mathlib.Core.Path.{◌≡◌}
-use lib.ListN.{length}
+use Prim.Native.Nat.{◌-◌}
 use Rattle.links.proofs.Written.{memory_long, all_few, ring_joinable, chain_joinable, back_joinable, linked}
 use native.Mathlib.Omega.{arith}
 use Rattle.links.proofs.put_links.Goals as goal

@@ -18,9 +18,9 @@ returns-in-Refused c =
 pub map_of-m-requires : goal.map_of-m-requires
 map_of-m-requires c =
     let a = c.args in
+    let none = sym c.plan-t.ensures ∙ ap tested_trouble c.in_default.is in
     let p =
-    tests_plannable a.zones a.tails.now a.heads.now a.gone.now a.from.now a.to.now a.why.now a.work.now
-    (sym c.plan-t.ensures ∙ ap tested_trouble c.in_default.is)
+    tests_plannable a.zones a.tails.now a.heads.now a.gone.now a.from.now a.to.now a.why.now a.work.now none
     in
     let f = p.ready.ready.fine in
     record { zones_bound = f.accepted.zones_most; arcs_bound = fine_few f }
@@ -28,9 +28,9 @@ map_of-m-requires c =
 pub lay-r-requires : goal.lay-r-requires
 lay-r-requires c =
     let a = c.args in
+    let none = sym c.plan-t.ensures ∙ ap tested_trouble c.in_default.is in
     let p =
-    tests_plannable a.zones a.tails.now a.heads.now a.gone.now a.from.now a.to.now a.why.now a.work.now
-    (sym c.plan-t.ensures ∙ ap tested_trouble c.in_default.is)
+    tests_plannable a.zones a.tails.now a.heads.now a.gone.now a.from.now a.to.now a.why.now a.work.now none
     in
     rw c.map_of-m.ensures p.ready
 
@@ -38,9 +38,9 @@ lay-r-requires c =
 pub hand_out-requires : goal.hand_out-requires
 hand_out-requires c =
     let a = c.args in
+    let none = sym c.plan-t.ensures ∙ ap tested_trouble c.in_default.is in
     let p =
-    tests_plannable a.zones a.tails.now a.heads.now a.gone.now a.from.now a.to.now a.why.now a.work.now
-    (sym c.plan-t.ensures ∙ ap tested_trouble c.in_default.is)
+    tests_plannable a.zones a.tails.now a.heads.now a.gone.now a.from.now a.to.now a.why.now a.work.now none
     in
     let e = c.map_of-m.ensures in
     let b = placed e in
@@ -59,9 +59,9 @@ hand_out-requires c =
 pub clear-requires : goal.clear-requires
 clear-requires c =
     let a = c.args in
+    let none = sym c.plan-t.ensures ∙ ap tested_trouble c.in_default.is in
     let p =
-    tests_plannable a.zones a.tails.now a.heads.now a.gone.now a.from.now a.to.now a.why.now a.work.now
-    (sym c.plan-t.ensures ∙ ap tested_trouble c.in_default.is)
+    tests_plannable a.zones a.tails.now a.heads.now a.gone.now a.from.now a.to.now a.why.now a.work.now none
     in
     let b = placed c.map_of-m.ensures in
     omega (arith, p.ready.ready.room, c.lay-r.ensures.long)
@@ -69,8 +69,9 @@ clear-requires c =
 pub returns : goal.returns
 returns c =
     let a = c.args in
+    let none = sym c.plan-t.ensures ∙ ap tested_trouble c.in_default.is in
     let o = c.hand_out in
     plan_done a.zones a.tails.now a.heads.now a.gone.now a.from.now a.to.now a.why.now a.work.now
     c.map_of-m.result c.lay-r.new.work o.new.from o.new.to o.new.why c.clear.new.work c.lay-r.result
-    c.answer_of.result c.map_of-m.ensures (sym c.plan-t.ensures ∙ ap tested_trouble c.in_default.is) c.lay-r.ensures c.answer_of.ensures
+    c.answer_of.result c.map_of-m.ensures none c.lay-r.ensures c.answer_of.ensures
     o.ensures.starts_out o.ensures.ends_out o.ensures.whys_out c.clear.ensures

@@ -1,9 +1,8 @@
 -- `stations::put_stations` meets its contract: its four copies put the four pieces of the stations one behind the
 -- other. Assumes nothing.
-use Prim.Native.Nat.{◌+◌, ◌≤◌, min}
 use mathlib.Core.Path.{◌∙◌}
 use lib.ListN.{length}
-use Rattle.stations.specs.Stations.{first_at, stations_end}
+use Rattle.stations.specs.Stations.{stations_end}
 use Rattle.memory.proofs.Copies.{copied_long}
 use Rattle.stations.proofs.Pieces.{first_inside, stationed}
 use native.Mathlib.Omega.{arith}
@@ -47,14 +46,12 @@ overflow_add-p-5 c =
 
 pub copy-requires-4 : goal.copy-requires-4
 copy-requires-4 c =
-    let inside : (stations_end c.args.p ≤ first_at c.args.n.pairs c.args.p.pairs.firsts c.args.p.lists.alone)
-    × (first_at c.args.n.pairs c.args.p.pairs.firsts c.args.p.lists.alone + min 1 (c.args.n.pairs + c.args.n.alone) ≤ length c.args.work.now) =
     let P = c.requires in
+    let inside =
     first_inside (stations_end c.args.p) (length c.args.work.now) c.args.n.pairs
     c.args.n.alone c.args.p.pairs.firsts c.args.p.lists.alone P.v_apart P.alone_apart
     (omega (arith, P.v_fits, P.why_fits)) (omega (arith, P.alone_fit, P.why_fits))
     in
-    let P = c.requires in
     let at = c.first_at.ensures in
     record {
       apart = omega (arith, at, c.one_of-last.ensures, c.one_of-first.ensures, P.room, inside.0);
