@@ -1,3 +1,3 @@
--- The steps of the two walks, and what the promise means.
+-- What the promise of PLAN over records means.
 pub mod Contents
 pub mod Outcomes

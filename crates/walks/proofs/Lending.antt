@@ -28,7 +28,7 @@ use denote.Memory.{mem, shares, shared_of}
 use denote.Bor.{Bor}
 use denote.Ref.{MutBor}
 use denote.Shares.{SharesAsFrom}
-use denote.Slice.{slice_val, MutSlice, ShrSlice, heres, Room, finally, shr_slice_at, mut_slice_at, coded_holeys}
+use denote.Slice.{slice_val, MutSlice, ShrSlice, heres, Room, finally, mut_slice_at, coded_holeys}
 use denote.Lend.{Held, lends_slice, slice_back, lends_shr_slice}
 use denote.Index.{row, whole_out, whole_in, opens_slice, closes_slice}
 
