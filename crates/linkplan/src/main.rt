@@ -8,23 +8,16 @@ use responding::respond;
 use std::io::{ErrorKind, Read};
 
 // Reads until the list is full or the input ends, and says how much was read. A read that fails is the end of the
-// input; one that was interrupted is made again.
+// input.
 fn read_full(reader: &mut impl Read, into: &mut [u8]) -> usize
     ensures { result ≤ length into.new }
 {
     let mut got = 0;
-    for _ in 0..u64::MAX {
-        if into.len() <= got {
-            return got;
-        }
+    while got < into.len() {
         match reader.read(&mut into[got..]) {
             Ok(0) => return got,
             Ok(n) => got += n,
-            Err(e) => {
-                if e.kind() != ErrorKind::Interrupted {
-                    return got;
-                }
-            }
+            Err(_) => return got,
         }
     }
     got
