@@ -5,7 +5,7 @@
 ghost use Rattle.std.specs.Prelude.{◌≤◌, length};
 
 use responding::respond;
-use std::io::{ErrorKind, Read};
+use std::io::Read;
 
 // Reads until the list is full or the input ends, and says how much was read. A read that fails is the end of the
 // input.
