@@ -2,15 +2,17 @@
 // `respond` goes from the bytes that were read to the bytes to write, in a lent buffer; `main` only reads and writes.
 #![tactic(auto)]
 
-ghost use Rattle.std.specs.Prelude.{◌≤◌, length};
+ghost use Rattle.std.specs.Prelude.{◌≤◌, length, take};
+ghost use Rattle.std.specs.Io.KnownBytes.{Consumes};
 
 use responding::respond;
 use std::io::Read;
 
-// Reads until the list is full or the input ends, and says how much was read. A read that fails is the end of the
-// input.
-fn read_full(reader: &mut impl Read, into: &mut [u8]) -> usize
-    ensures { result ≤ length into.new }
+// Reads until the list is full or the input ends, and says how much was read: the list begins with it, in its order, and
+// nothing else of the input is gone. A read that fails is the end of the input.
+fn read_full<R: Read>(reader: &mut R, into: &mut [u8]) -> usize
+    ensures within { result ≤ length into.new }
+    ensures front { Consumes (R.remaining reader.old) (R.remaining reader.new) (take result into.new) }
 {
     let mut got = 0;
     while got < into.len() {

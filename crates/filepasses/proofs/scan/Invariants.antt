@@ -10,7 +10,9 @@ use Rattle.filepasses.proofs.scan.Given as goal
 
 abbrev pub invariant-loop-k : goal.invariant-loop-k
 invariant-loop-k l =
-    (l.k ≤ l.arcs) × (es : List Arc) × (arcs_at l.s l.zones l.arcs l.initial.c.at ≡ ahead es (arcs_at l.s l.zones (l.arcs - l.k) l.c.at))
+    (l.k ≤ l.arcs)
+    × (es : List Arc)
+    × (arcs_at l.s l.zones l.arcs l.initial.c.at ≡ ahead es (arcs_at l.s l.zones (l.arcs - l.k) l.c.at))
 
 abbrev pub decreases-loop-k : goal.decreases-loop-k
 decreases-loop-k l = l.arcs - l.k

@@ -10,7 +10,9 @@ use Rattle.lines.proofs.put_lines.Given as goal
 -- the lines of the first i links are put, up to place `end`
 abbrev pub invariant-loop-i : goal.invariant-loop-i
 invariant-loop-i l =
-    (l.i ≤ l.count) × Written l.initial.out l.at (lines_of l.from l.to l.why l.i) l.end l.out × (length l.out ≡ length l.initial.out)
+    (l.i ≤ l.count)
+    × Written l.initial.out l.at (lines_of l.from l.to l.why l.i) l.end l.out
+    × (length l.out ≡ length l.initial.out)
 
 -- the links that are left
 abbrev pub decreases-loop-i : goal.decreases-loop-i

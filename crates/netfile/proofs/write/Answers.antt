@@ -31,13 +31,17 @@ length_is n ts hs fine p q r =
     let w = written_length n ts hs fine.paired in
     omega arith
 
--- What the test of the room finds is the trouble of writing.
-room_found : (n : ℕ) (ts hs gone file : List ℕ) {a r : Tested} {k : ℕ} → FoundBy (network_tests n ts hs gone) a
-    → a ≡ Tested.Fine → k ≡ length (written n ts hs) → FoundBy (room_test k (length file) ∷ []) r
-    → write_trouble n ts hs gone file ≡ tested_trouble r
-room_found n ts hs gone file {r = r} f passed e t =
-    write_found n ts hs gone file f
-    (found_goes_on passed (subst (λ (y : ℕ). FoundBy (room_test y (length file) ∷ []) r) e t))
+-- So the three lengths are the file's, and what the test of the room finds is the trouble of writing.
+room_found : (n : ℕ) (ts hs gone file : List ℕ) {a r : Tested} {k l m : ℕ} → FoundBy (network_tests n ts hs gone) a
+    → a ≡ Tested.Fine → k ≡ length (number_bytes n) → l ≡ length (number_bytes (length ts))
+    → m ≡ length (arcs_bytes (arcs_of ts hs)) → FoundBy (room_test (k + l + m) (length file) ∷ []) r
+    → (k + l + m ≡ length (written n ts hs)) × (write_trouble n ts hs gone file ≡ tested_trouble r)
+room_found n ts hs gone file {r = r} f passed p q m t =
+    let e = length_is n ts hs (fine_here n ts hs gone f passed) p q m in (
+      e,
+      write_found n ts hs gone file f
+          (found_goes_on passed (subst (λ (y : ℕ). FoundBy (room_test y (length file) ∷ []) r) e t)),
+    )
 
 pub returns-in-Refused : goal.returns-in-Refused
 returns-in-Refused c =
@@ -75,14 +79,10 @@ overflow_add-length c =
 pub returns-in-Refused-roomy : goal.returns-in-Refused-roomy
 returns-in-Refused-roomy c =
     let a = c.args in
-    let net = c.network-taken.ensures.found_by in
-    let passed = c.in_default.is in
-    let f = fine_here a.zones a.tails.now a.heads.now a.gone.now net passed in
-    let p = c.number_length.ensures in
-    let q = c.number_length-2.ensures in
-    let l = length_is a.zones a.tails.now a.heads.now f p q c.arcs_length.ensures in
-    let e = room_found a.zones a.tails.now a.heads.now a.gone.now a.file.now net passed l c.room-roomy.ensures in
-    write_bad _ _ _ _ _ _ (e ∙ ap tested_trouble c.in-Refused-roomy.is)
+    let told =
+    room_found a.zones a.tails.now a.heads.now a.gone.now a.file.now c.network-taken.ensures.found_by
+    c.in_default.is c.number_length.ensures c.number_length-2.ensures c.arcs_length.ensures c.room-roomy.ensures in
+    write_bad _ _ _ _ _ _ (told.1 ∙ ap tested_trouble c.in-Refused-roomy.is)
 
 pub write_file-requires-clause-counts_bound : goal.write_file-requires-clause-counts_bound
 write_file-requires-clause-counts_bound c =
@@ -94,26 +94,18 @@ write_file-requires-clause-counts_bound c =
 pub write_file-requires-clause-has_room : goal.write_file-requires-clause-has_room
 write_file-requires-clause-has_room c =
     let a = c.args in
-    let net = c.network-taken.ensures.found_by in
-    let passed = c.in_default.is in
-    let f = fine_here a.zones a.tails.now a.heads.now a.gone.now net passed in
-    let p = c.number_length.ensures in
-    let q = c.number_length-2.ensures in
-    let l = length_is a.zones a.tails.now a.heads.now f p q c.arcs_length.ensures in
-    let e = room_found a.zones a.tails.now a.heads.now a.gone.now a.file.now net passed l c.room-roomy.ensures in
-    write_fits a.zones a.tails.now a.heads.now a.gone.now a.file.now (e ∙ ap tested_trouble c.in_default-roomy.is)
+    let told =
+    room_found a.zones a.tails.now a.heads.now a.gone.now a.file.now c.network-taken.ensures.found_by
+    c.in_default.is c.number_length.ensures c.number_length-2.ensures c.arcs_length.ensures c.room-roomy.ensures in
+    write_fits a.zones a.tails.now a.heads.now a.gone.now a.file.now (told.1 ∙ ap tested_trouble c.in_default-roomy.is)
 
 pub returns : goal.returns
 returns c =
     let a = c.args in
-    let net = c.network-taken.ensures.found_by in
-    let passed = c.in_default.is in
-    let f = fine_here a.zones a.tails.now a.heads.now a.gone.now net passed in
-    let p = c.number_length.ensures in
-    let q = c.number_length-2.ensures in
-    let l = length_is a.zones a.tails.now a.heads.now f p q c.arcs_length.ensures in
-    let e = room_found a.zones a.tails.now a.heads.now a.gone.now a.file.now net passed l c.room-roomy.ensures in
+    let told =
+    room_found a.zones a.tails.now a.heads.now a.gone.now a.file.now c.network-taken.ensures.found_by
+    c.in_default.is c.number_length.ensures c.number_length-2.ensures c.arcs_length.ensures c.room-roomy.ensures in
     write_done a.zones a.tails.now a.heads.now a.gone.now a.file.now _ _
-    (e ∙ ap tested_trouble c.in_default-roomy.is)
-    l
+    (told.1 ∙ ap tested_trouble c.in_default-roomy.is)
+    told.0
     c.write_file.ensures

@@ -7,26 +7,18 @@ use Rattle.responding.proofs.Lines.{responded}
 use Rattle.responding.proofs.Handing.{refused_prints, read_hands, handed_plannable, handed_prints}
 use Rattle.responding.proofs.respond.Goals as goal
 
-pub returns-in-Refused-clause-responded : goal.returns-in-Refused-clause-responded
-returns-in-Refused-clause-responded c =
-    (responded (sym (refused_prints c.read.ensures (zeros_are 4096) (zeros_are 4096) c.in-Refused.is))
-    c.refuse.ensures).1
-
-pub returns-in-Refused-clause-prefix_len : goal.returns-in-Refused-clause-prefix_len
-returns-in-Refused-clause-prefix_len c =
-    (responded (sym (refused_prints c.read.ensures (zeros_are 4096) (zeros_are 4096) c.in-Refused.is))
-    c.refuse.ensures).0
+pub returns-in-Refused : goal.returns-in-Refused
+returns-in-Refused c =
+    let prints = refused_prints c.read.ensures (zeros_are 4096) (zeros_are 4096) c.in-Refused.is in
+    let told = responded (sym prints) c.refuse.ensures in
+    record { responded = told.1; prefix_len = told.0 }
 
 pub put_planned-requires : goal.put_planned-requires
 put_planned-requires c =
     handed_plannable (read_hands c.read.ensures (zeros_are 4096) (zeros_are 4096) c.in-Done.is) _ (search rules)
 
-pub returns-in-Done-clause-responded : goal.returns-in-Done-clause-responded
-returns-in-Done-clause-responded c =
-    (responded (handed_prints (read_hands c.read.ensures (zeros_are 4096) (zeros_are 4096) c.in-Done.is))
-    c.put_planned.ensures).1
-
-pub returns-in-Done-clause-prefix_len : goal.returns-in-Done-clause-prefix_len
-returns-in-Done-clause-prefix_len c =
-    (responded (handed_prints (read_hands c.read.ensures (zeros_are 4096) (zeros_are 4096) c.in-Done.is))
-    c.put_planned.ensures).0
+pub returns-in-Done : goal.returns-in-Done
+returns-in-Done c =
+    let handed = read_hands c.read.ensures (zeros_are 4096) (zeros_are 4096) c.in-Done.is in
+    let told = responded (handed_prints handed) c.put_planned.ensures in
+    record { responded = told.1; prefix_len = told.0 }
