@@ -12,7 +12,7 @@ ghost use Rattle.memory.specs.Storing.{Copyable, Copied};
 pub fn wide(x: u16) -> usize
     ensures { result ≡ x }
 {
-    x as usize
+    usize::from(x)
 }
 
 // Stores a number n times, from the place `at` on.
@@ -20,11 +20,7 @@ pub fn fill(work: &mut [u16], at: usize, n: usize, x: u16)
     requires { at + n ≤ length work.old }
     ensures { work.new ≡ sets work.old at (replicate n x) }
 {
-    let mut i = 0;
-    while i < n {
-        work[at + i] = x;
-        i += 1;
-    }
+    work[at..at + n].fill(x);
 }
 
 // Zeros in the first `asked` elements; past them the work memory is as it came.
@@ -32,7 +28,7 @@ pub fn clear(work: &mut [u16], asked: usize)
     requires { asked ≤ length work.old }
     ensures { work.new ≡ cleared asked work.old }
 {
-    fill(work, 0, asked, 0);
+    work[..asked].fill(0);
 }
 
 // Copies n elements of the work memory, from the place `from` on, to lower places, from `to` on.
@@ -40,11 +36,7 @@ pub fn copy(work: &mut [u16], from: usize, n: usize, to: usize)
     requires { Copyable work.old from n to }
     ensures { Copied work.old work.new from n to }
 {
-    let mut i = 0;
-    while i < n {
-        work[to + i] = work[from + i];
-        i += 1;
-    }
+    work.copy_within(from..from + n, to);
 }
 
 // Copies n elements of the work memory, from the place `at` on, to the front of a lent list.
@@ -52,9 +44,5 @@ pub fn copy_out(work: &[u16], at: usize, n: usize, out: &mut [u16])
     requires { (at + n ≤ length work.now) × (n ≤ length out.old) }
     ensures { out.new ≡ over (part work.now at n) out.old }
 {
-    let mut i = 0;
-    while i < n {
-        out[i] = work[at + i];
-        i += 1;
-    }
+    out[..n].copy_from_slice(&work[at..at + n]);
 }

@@ -1,25 +1,10 @@
-use mathlib.Core.Path.{◌≡◌}
-use Rattle.memory.proofs.Copies.{copy_down, copied_long}
-use native.Mathlib.Omega.{arith}
+-- `memory::copy` meets its contract: what the slice's own method leaves, as stores. Assumes nothing.
+use Rattle.std.proofs.Common.{◌≡◌, ◌∙◌, ◌+◌, ◌-◌, arith, drop, length-drop}
+use Rattle.memory.proofs.Copies.{paste_sets}
 use Rattle.memory.proofs.copy.Goals as goal
-
-pub bounds-work-from : goal.bounds-work-from
-bounds-work-from c = omega (arith, copied_long c.loop-i.invariant.1)
-
-pub bounds-work-to : goal.bounds-work-to
-bounds-work-to c = omega (arith, copied_long c.loop-i.invariant.1)
-
-pub loop-i-preserved : goal.loop-i-preserved
-loop-i-preserved c =
-    let a = c.args in
-    let P = c.requires in
-    let l = c.loop-i in
-    (omega arith, copy_down a.work.now l.work a.from l.i a.to (omega arith) (omega arith) l.invariant.1)
-
-pub shape_of-work : goal.shape_of-work
-shape_of-work c = copied_long c.loop-i.invariant.1
 
 pub returns : goal.returns
 returns c =
-    let e : c.loop-i.i ≡ c.args.n = omega arith in
-    rw e at c.loop-i.invariant.1
+    let a = c.args in
+    let n : a.from + a.n - a.from ≡ a.n = omega arith in
+    record { is = rw n at c.copy_within.ensures.after ∙ paste_sets a.work.now (drop a.from a.work.now) a.to a.n (omega arith) (simp length-drop (omega arith)) }
