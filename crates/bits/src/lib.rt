@@ -22,7 +22,7 @@ pub fn set_bit(work: &mut [u16], words: usize, a: usize, b: usize)
     ensures { work.new ≡ with_bit work.old words a b }
 {
     let at = a * words + b / 16;
-    work[at] = work[at] | 1u16 << (b % 16);
+    work[at] |= 1u16 << (b % 16);
 }
 
 // Sets in the row that starts at `into` all bits that are set in the row that starts at `from`.
@@ -30,9 +30,7 @@ pub fn join(work: &mut [u16], into: usize, from: usize, words: usize)
     requires { (into + words ≤ length work.old) × (from + words ≤ length work.old) }
     ensures { work.new ≡ with_words work.old into from words }
 {
-    let mut word = 0;
-    while word < words {
-        work[into + word] = work[into + word] | work[from + word];
-        word += 1;
+    for word in 0..words {
+        work[into + word] |= work[from + word];
     }
 }

@@ -22,7 +22,8 @@ pub copied_long : {w w' : List ℕ} {from n to : ℕ} → Copied w w' from n to 
 copied_long {w} {w'} {from} {n} {to} C = ap length C.is ∙ length-sets w to (part w from n)
 
 -- n elements of a list pasted are stores of them
-pub paste_sets : (w xs : List ℕ) (at n : ℕ) → at + n ≤ length w → n ≤ length xs → paste w at xs n ≡ sets w at (take n xs)
+pub paste_sets : (w xs : List ℕ) (at n : ℕ) → at + n ≤ length w → n ≤ length xs →
+    paste w at xs n ≡ sets w at (take n xs)
 paste_sets w xs at n fits enough =
     let long : length (take n xs) ≡ n = length-take-le n xs enough in
     ap (λ (k : ℕ). take at w ++ take n xs ++ drop (at + k) w) (sym long)

@@ -1,11 +1,7 @@
--- `bits::join` meets its contract. The loop's invariant: the memory is what it was with `word` elements joined. The
--- measure is the number of elements left. Assumes nothing.
-use Prim.Native.Nat.{◌-◌}
+-- `bits::join` meets its contract. The loop's invariant: the memory is what it was with `word` elements joined. Assumes
+-- nothing.
 use Rattle.bits.proofs.Joins.{Joining}
 use Rattle.bits.proofs.join.Given as goal
 
 abbrev pub invariant-loop-word : goal.invariant-loop-word
 invariant-loop-word l = Joining l.initial.work l.work l.into l.from l.words l.word
-
-abbrev pub decreases-loop-word : goal.decreases-loop-word
-decreases-loop-word l = l.words - l.word

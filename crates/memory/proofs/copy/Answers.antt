@@ -7,4 +7,8 @@ pub returns : goal.returns
 returns c =
     let a = c.args in
     let n : a.from + a.n - a.from ≡ a.n = omega arith in
-    record { is = rw n at c.copy_within.ensures.after ∙ paste_sets a.work.now (drop a.from a.work.now) a.to a.n (omega arith) (simp length-drop (omega arith)) }
+    record {
+      is =
+          rw n at c.copy_within.ensures.after
+          ∙ paste_sets a.work.now (drop a.from a.work.now) a.to a.n (omega arith) (simp length-drop (omega arith));
+    }
