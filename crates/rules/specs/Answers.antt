@@ -2,22 +2,20 @@
 --   trouble_number   the number of each kind of refusal: nowhere else do these numbers stand
 --   refusal k at     the refusal of a kind at a place, as the code's `Trouble`
 --   Told             what an answer says: the number, the place, and the values
+--   ReadAnswer ..    what each call answers: `Ok` with its values, or `Err` with the refusal
+--   read_done, plan_done    an answer with its values, where these are more than one
 --   read_told ..     what each case of each call's answer says
 --   refused k t      what a refusal says where the answer has k values: each of them is 0
 --   answer_eight     the eight numbers of the C interface
 -- Every promise speaks of an answer through these.
-use Rattle.std.specs.Prelude.{ℕ, List, [], ◌∷◌, Bool, true, false, replicate}
+use Rattle.std.specs.Prelude.{ℕ, List, [], ◌∷◌, Bool, true, false, replicate, Result, Ok, Err}
 use Rattle.rules.specs.Lists.{over}
 use Rattle.rules.specs.declared.TroubleKind.{TroubleKind}
 use Rattle.rules.specs.declared.TroubleKind.TheVariants.{Short, Long, Loose, Zones, Arcs, Range, SelfArc}
 use Rattle.rules.specs.declared.TroubleKind.TheVariants.{Extra, Room, Pair, Head, ZoneList, None, Gone}
 use Rattle.rules.specs.declared.Trouble.{Trouble}
-use Rattle.rules.specs.declared.ReadAnswer.{ReadAnswer}
-use Rattle.rules.specs.declared.WriteAnswer.{WriteAnswer}
-use Rattle.rules.specs.declared.StrongAnswer.{StrongAnswer}
-use Rattle.rules.specs.declared.ReachAnswer.{ReachAnswer}
-use Rattle.rules.specs.declared.SkeletonAnswer.{SkeletonAnswer}
-use Rattle.rules.specs.declared.PlanAnswer.{PlanAnswer}
+use Rattle.rules.specs.declared.FileCounts.{FileCounts}
+use Rattle.rules.specs.declared.PlanCounts.{PlanCounts}
 
 -- document 01's table, and document 02's further kinds; DONE is 0
 abbrev pub trouble_number : TroubleKind → ℕ
@@ -59,35 +57,62 @@ abbrev pub yes_number : Bool → ℕ
 yes_number true = 1
 yes_number false = 0
 
+-- the answer of each call: the values that it hands out, or the refusal
+abbrev pub ReadAnswer : Type 0
+ReadAnswer = Result FileCounts Trouble
+
+abbrev pub WriteAnswer : Type 0
+WriteAnswer = Result ℕ Trouble
+
+abbrev pub StrongAnswer : Type 0
+StrongAnswer = Result Bool Trouble
+
+abbrev pub ReachAnswer : Type 0
+ReachAnswer = Result Bool Trouble
+
+abbrev pub SkeletonAnswer : Type 0
+SkeletonAnswer = Result ℕ Trouble
+
+abbrev pub PlanAnswer : Type 0
+PlanAnswer = Result PlanCounts Trouble
+
+-- reading is done, with these zones and arcs
+abbrev pub read_done : ℕ → ℕ → ReadAnswer
+read_done zones arcs = Ok (record { zones = zones; arcs = arcs })
+
+-- the plan is done, with these s, t, q, p, and the number of links
+abbrev pub plan_done : ℕ → ℕ → ℕ → ℕ → ℕ → PlanAnswer
+plan_done s t q p need = Ok (record { sources = s; sinks = t; alone = q; pairs = p; need = need })
+
 -- reading: zones, arcs
 abbrev pub read_told : ReadAnswer → Told
-read_told (ReadAnswer.Done zones arcs) = done (zones ∷ arcs ∷ [])
-read_told (ReadAnswer.Refused t) = refused 2 t
+read_told (Ok c) = done (c.zones ∷ c.arcs ∷ [])
+read_told (Err t) = refused 2 t
 
 -- writing: the file's length
 abbrev pub write_told : WriteAnswer → Told
-write_told (WriteAnswer.Done n) = done (n ∷ [])
-write_told (WriteAnswer.Refused t) = refused 1 t
+write_told (Ok n) = done (n ∷ [])
+write_told (Err t) = refused 1 t
 
 -- strong: yes or no
 abbrev pub strong_told : StrongAnswer → Told
-strong_told (StrongAnswer.Done b) = done (yes_number b ∷ [])
-strong_told (StrongAnswer.Refused t) = refused 1 t
+strong_told (Ok b) = done (yes_number b ∷ [])
+strong_told (Err t) = refused 1 t
 
 -- reach: yes or no
 abbrev pub reach_told : ReachAnswer → Told
-reach_told (ReachAnswer.Done b) = done (yes_number b ∷ [])
-reach_told (ReachAnswer.Refused t) = refused 1 t
+reach_told (Ok b) = done (yes_number b ∷ [])
+reach_told (Err t) = refused 1 t
 
 -- skeleton: its arc count
 abbrev pub skeleton_told : SkeletonAnswer → Told
-skeleton_told (SkeletonAnswer.Done n) = done (n ∷ [])
-skeleton_told (SkeletonAnswer.Refused t) = refused 1 t
+skeleton_told (Ok n) = done (n ∷ [])
+skeleton_told (Err t) = refused 1 t
 
 -- plan: s, t, q, p, and the number of links
 abbrev pub plan_told : PlanAnswer → Told
-plan_told (PlanAnswer.Done s t q p need) = done (s ∷ t ∷ q ∷ p ∷ need ∷ [])
-plan_told (PlanAnswer.Refused t) = refused 5 t
+plan_told (Ok c) = done (c.sources ∷ c.sinks ∷ c.alone ∷ c.pairs ∷ c.need ∷ [])
+plan_told (Err t) = refused 5 t
 
 -- the eight numbers that the C interface hands out: the number, the place, the values, and 0 in what is left
 abbrev pub answer_eight : Told → List ℕ

@@ -7,7 +7,8 @@
 --   with_links N ls   the network with the arcs of the links ls added
 --   plan N            the plan;   plan_pairs N   p;   plan_need N   the number of links
 --   link_starts, link_ends, link_whys, record_of, plan_values   links and counts as a call hands them out
-use Rattle.std.specs.Prelude.{ℕ, ◌+◌, max, List, [], ◌∷◌, ◌++◌, map, Bool, true, false, leb, length, drop}
+--   why_numbered k    the why of a number, as a record has it;   record_why_number y   its number
+use Rattle.std.specs.Prelude.{ℕ, ◌+◌, max, List, [], ◌∷◌, ◌++◌, map, Bool, true, false, eqb, leb, length, drop}
 use Rattle.std.proofs.Math.Option.{Option, none, some}
 use Rattle.rules.specs.declared.Why.{Why as RecordWhy}
 use Rattle.rules.specs.declared.Why.TheVariants.{Ring, Chain, Back}
@@ -94,6 +95,22 @@ abbrev pub why_of : Why → RecordWhy
 why_of ring = Ring
 why_of chain = Chain
 why_of back = Back
+
+-- a why, by whether its number is 0, and whether it is 1
+abbrev pub why_told : Bool → Bool → RecordWhy
+why_told true one = Ring
+why_told false true = Chain
+why_told false false = Back
+
+-- the why of a number, as a record has it
+abbrev pub why_numbered : ℕ → RecordWhy
+why_numbered k = why_told (eqb k 0) (eqb k 1)
+
+-- and its number
+abbrev pub record_why_number : RecordWhy → ℕ
+record_why_number Ring = 0
+record_why_number Chain = 1
+record_why_number Back = 2
 
 -- the record of a link
 abbrev pub record_of : Link → RecordLink

@@ -5,7 +5,6 @@
 -- After a complete plan the line "done" is written last; a refusal prints one line only.
 use Rattle.std.specs.Prelude.{ℕ, zero, suc, ◌+◌, ◌/◌, ◌%◌, List, [], ◌∷◌, ◌++◌, true, false, length, ltb}
 use Prim.Native.Char.{code}
-use Prim.Native.String
 use Prim.Native.String.{String}
 use Rattle.rules.specs.declared.Trouble.{Trouble}
 use Rattle.rules.specs.Answers.{trouble_number}

@@ -22,13 +22,10 @@ use mathlib.Core.Option.{none, some}
 use lib.ListN.{length}
 use lib.Dec.{ltb}
 use borrow.Author.Tests.{le-ltb}
+use Rattle.rules.specs.Answers.{plan_done}
+use Rattle.std.specs.Prelude.{Ok, Err}
 use Rattle.rules.specs.declared.Trouble.{Trouble}
 use Rattle.rules.specs.declared.TroubleKind.TheVariants.{Room}
-use Rattle.rules.specs.declared.WriteAnswer.{WriteAnswer}
-use Rattle.rules.specs.declared.StrongAnswer.{StrongAnswer}
-use Rattle.rules.specs.declared.ReachAnswer.{ReachAnswer}
-use Rattle.rules.specs.declared.SkeletonAnswer.{SkeletonAnswer}
-use Rattle.rules.specs.declared.PlanAnswer.{PlanAnswer}
 use Rattle.rules.specs.Answers.{refusal}
 use Rattle.rules.specs.Lists.{listed}
 use Rattle.rules.specs.Network.{Arc, Proper, reaches, strong}
@@ -87,27 +84,27 @@ module _ (i : HandedIn) where
 
 module _ {i : HandedIn} where
   -- a call that ends with DONE was handed a network that a call accepts
-  pub write_accepts : (c : WriteCall i) {k : ℕ} → c.answer ≡ WriteAnswer.Done k → IsAccepted i
+  pub write_accepts : (c : WriteCall i) {k : ℕ} → c.answer ≡ Ok k → IsAccepted i
   unfolding write_trouble
   write_accepts c e = tests_accepted i _ ((write_done_when c).0 e).0
 
-  pub strong_accepts : (c : StrongCall i) {b : Bool} → c.answer ≡ StrongAnswer.Done b → IsAccepted i
+  pub strong_accepts : (c : StrongCall i) {b : Bool} → c.answer ≡ Ok b → IsAccepted i
   unfolding strong_trouble
   strong_accepts c e = tests_accepted i _ ((strong_done_when c).0 e).0
 
-  pub reach_accepts : {x y : ℕ} (c : ReachCall i x y) {b : Bool} → c.answer ≡ ReachAnswer.Done b → IsAccepted i
+  pub reach_accepts : {x y : ℕ} (c : ReachCall i x y) {b : Bool} → c.answer ≡ Ok b → IsAccepted i
   unfolding reach_trouble
   reach_accepts c e = tests_accepted i _ ((reach_done_when c).0 e).0
 
-  pub skeleton_accepts : (c : SkeletonCall i) {k : ℕ} → c.answer ≡ SkeletonAnswer.Done k → IsAccepted i
+  pub skeleton_accepts : (c : SkeletonCall i) {k : ℕ} → c.answer ≡ Ok k → IsAccepted i
   unfolding skeleton_trouble
   skeleton_accepts c e = tests_accepted i _ ((skeleton_done_when c).0 e).0
 
-  pub plan_accepts : (c : PlanCall i) {s t q p need : ℕ} → c.answer ≡ PlanAnswer.Done s t q p need → IsAccepted i
+  pub plan_accepts : (c : PlanCall i) {s t q p need : ℕ} → c.answer ≡ plan_done s t q p need → IsAccepted i
   unfolding plan_trouble
   plan_accepts c e = tests_accepted i _ ((plan_done_when c).0 e).0
 
-  pub records_accepts : (c : RecordsCall i) {s t q p need : ℕ} → c.answer ≡ PlanAnswer.Done s t q p need
+  pub records_accepts : (c : RecordsCall i) {s t q p need : ℕ} → c.answer ≡ plan_done s t q p need
       → IsAccepted i
   unfolding records_trouble
   records_accepts c e = tests_accepted i _ ((records_done_when c).0 e).0
@@ -170,7 +167,7 @@ module _ {i : HandedIn} where
   records_rooms c = work_room i c.work ∷ (i.zones, length c.lent) ∷ []
 
   -- REACH that ends with DONE was asked about two zones that remain
-  pub reach_asked : {x y : ℕ} (c : ReachCall i x y) {b : Bool} → c.answer ≡ ReachAnswer.Done b
+  pub reach_asked : {x y : ℕ} (c : ReachCall i x y) {b : Bool} → c.answer ≡ Ok b
       → Remains i x × Remains i y
   unfolding reach_trouble
   reach_asked {x} {y} c e =
@@ -192,21 +189,21 @@ module _ {i : HandedIn} (a : IsAccepted i) where
 
   -- WRITE
   pub write_answers : (c : WriteCall i) → LongEnough (write_rooms c)
-      → c.answer ≡ WriteAnswer.Done (length (file_of i))
+      → c.answer ≡ Ok (length (file_of i))
   unfolding write_trouble
   write_answers c l = (write_done_when c).1 (lent_pass (write_rooms c) l, refl)
 
-  pub write_room : (c : WriteCall i) {r : Trouble} → c.answer ≡ WriteAnswer.Refused r → r ≡ refusal Room 0
+  pub write_room : (c : WriteCall i) {r : Trouble} → c.answer ≡ Err r → r ≡ refusal Room 0
   unfolding write_trouble
   write_room c e = lent_say (write_rooms c) ((write_refused_when c).0 e)
 
   -- STRONG
   pub strong_answers : (c : StrongCall i) → LongEnough (strong_rooms c)
-      → c.answer ≡ StrongAnswer.Done (strong (network i))
+      → c.answer ≡ Ok (strong (network i))
   unfolding strong_trouble
   strong_answers c l = (strong_done_when c).1 (lent_pass (strong_rooms c) l, refl)
 
-  pub strong_room : (c : StrongCall i) {r : Trouble} → c.answer ≡ StrongAnswer.Refused r → r ≡ refusal Room 0
+  pub strong_room : (c : StrongCall i) {r : Trouble} → c.answer ≡ Err r → r ≡ refusal Room 0
   unfolding strong_trouble
   strong_room c e = lent_say (strong_rooms c) ((strong_refused_when c).0 e)
 
@@ -221,41 +218,41 @@ module _ {i : HandedIn} (a : IsAccepted i) where
         (remain_question i.zones (length i.tails) i.gone x_remains y_remains)
 
     pub reach_answers : (c : ReachCall i x y) → LongEnough (reach_rooms c)
-        → c.answer ≡ ReachAnswer.Done (reaches (network i) x y)
+        → c.answer ≡ Ok (reaches (network i) x y)
     unfolding reach_trouble
     reach_answers c l = (reach_done_when c).1 (asked_tests (reach_rooms c) ∙ rooms_pass (reach_rooms c) l, refl)
 
-    pub reach_room : (c : ReachCall i x y) {r : Trouble} → c.answer ≡ ReachAnswer.Refused r → r ≡ refusal Room 0
+    pub reach_room : (c : ReachCall i x y) {r : Trouble} → c.answer ≡ Err r → r ≡ refusal Room 0
     unfolding reach_trouble
     reach_room c e = rooms_say (reach_rooms c) (sym (asked_tests (reach_rooms c)) ∙ (reach_refused_when c).0 e)
 
   -- SKELETON
   pub skeleton_answers : (c : SkeletonCall i) → LongEnough (skeleton_rooms c)
-      → c.answer ≡ SkeletonAnswer.Done (length (skeleton (network i)))
+      → c.answer ≡ Ok (length (skeleton (network i)))
   unfolding skeleton_trouble
   skeleton_answers c l = (skeleton_done_when c).1 (lent_pass (skeleton_rooms c) l, refl)
 
-  pub skeleton_room : (c : SkeletonCall i) {r : Trouble} → c.answer ≡ SkeletonAnswer.Refused r
+  pub skeleton_room : (c : SkeletonCall i) {r : Trouble} → c.answer ≡ Err r
       → r ≡ refusal Room 0
   unfolding skeleton_trouble
   skeleton_room c e = lent_say (skeleton_rooms c) ((skeleton_refused_when c).0 e)
 
   -- PLAN
   pub plan_answers : (c : PlanCall i) → LongEnough (plan_rooms c) → {s t q p need : ℕ}
-      → PlanCounts (network i) s t q p need → c.answer ≡ PlanAnswer.Done s t q p need
+      → PlanCounts (network i) s t q p need → c.answer ≡ plan_done s t q p need
   unfolding plan_trouble
   plan_answers c l counts = (plan_done_when c).1 (lent_pass (plan_rooms c) l, counts)
 
-  pub plan_room : (c : PlanCall i) {r : Trouble} → c.answer ≡ PlanAnswer.Refused r → r ≡ refusal Room 0
+  pub plan_room : (c : PlanCall i) {r : Trouble} → c.answer ≡ Err r → r ≡ refusal Room 0
   unfolding plan_trouble
   plan_room c e = lent_say (plan_rooms c) ((plan_refused_when c).0 e)
 
   -- PLAN over records
   pub records_answers : (c : RecordsCall i) → LongEnough (records_rooms c) → {s t q p need : ℕ}
-      → PlanCounts (network i) s t q p need → c.answer ≡ PlanAnswer.Done s t q p need
+      → PlanCounts (network i) s t q p need → c.answer ≡ plan_done s t q p need
   unfolding records_trouble
   records_answers c l counts = (records_done_when c).1 (lent_pass (records_rooms c) l, counts)
 
-  pub records_room : (c : RecordsCall i) {r : Trouble} → c.answer ≡ PlanAnswer.Refused r → r ≡ refusal Room 0
+  pub records_room : (c : RecordsCall i) {r : Trouble} → c.answer ≡ Err r → r ≡ refusal Room 0
   unfolding records_trouble
   records_room c e = lent_say (records_rooms c) ((records_refused_when c).0 e)

@@ -12,13 +12,9 @@ use mathlib.Core.Bool.{Bool}
 use mathlib.Core.List.{List, [], ◌∷◌}
 use mathlib.Core.Option.{Option, none, some}
 use lib.ListN.{length}
+use Rattle.rules.specs.Answers.{read_done, plan_done}
+use Rattle.std.specs.Prelude.{Ok, Err}
 use Rattle.rules.specs.declared.Trouble.{Trouble}
-use Rattle.rules.specs.declared.ReadAnswer.{ReadAnswer}
-use Rattle.rules.specs.declared.WriteAnswer.{WriteAnswer}
-use Rattle.rules.specs.declared.StrongAnswer.{StrongAnswer}
-use Rattle.rules.specs.declared.ReachAnswer.{ReachAnswer}
-use Rattle.rules.specs.declared.SkeletonAnswer.{SkeletonAnswer}
-use Rattle.rules.specs.declared.PlanAnswer.{PlanAnswer}
 use Rattle.rules.specs.Answers.{Told, done, refused, yes_number}
 use Rattle.rules.specs.Answers.{read_told, write_told, strong_told, reach_told, skeleton_told, plan_told}
 use Rattle.rules.specs.Network.{Network, reaches, strong}
@@ -96,66 +92,66 @@ counts_value = (
 module _ {i : HandedIn} where
   -- WRITE
   pub write_done_when : (c : WriteCall i) {k : ℕ}
-      → (c.answer ≡ WriteAnswer.Done k)
+      → (c.answer ≡ Ok k)
       ↔ ((write_call_trouble c ≡ none) × (k ≡ length (file_of i)))
   write_done_when c =
       said_as (done_exactly write_told write_told_once 1 c.answer _ _ _ c.promise.told_is refl) one_value
 
   pub write_refused_when : (c : WriteCall i) {r : Trouble}
-      → (c.answer ≡ WriteAnswer.Refused r) ↔ (write_call_trouble c ≡ some r)
+      → (c.answer ≡ Err r) ↔ (write_call_trouble c ≡ some r)
   write_refused_when c = refused_exactly write_told write_told_once 1 c.answer _ _ _ c.promise.told_is refl
 
   -- STRONG
   pub strong_done_when : (c : StrongCall i) {b : Bool}
-      → (c.answer ≡ StrongAnswer.Done b) ↔ ((strong_call_trouble c ≡ none) × (b ≡ strong (network i)))
+      → (c.answer ≡ Ok b) ↔ ((strong_call_trouble c ≡ none) × (b ≡ strong (network i)))
   strong_done_when c =
       said_as (done_exactly strong_told strong_told_once 1 c.answer _ _ _ c.promise.told_is refl) yes_value
 
   pub strong_refused_when : (c : StrongCall i) {r : Trouble}
-      → (c.answer ≡ StrongAnswer.Refused r) ↔ (strong_call_trouble c ≡ some r)
+      → (c.answer ≡ Err r) ↔ (strong_call_trouble c ≡ some r)
   strong_refused_when c = refused_exactly strong_told strong_told_once 1 c.answer _ _ _ c.promise.told_is refl
 
   -- REACH
   pub reach_done_when : {x y : ℕ} (c : ReachCall i x y) {b : Bool}
-      → (c.answer ≡ ReachAnswer.Done b) ↔ ((reach_call_trouble c ≡ none) × (b ≡ reaches (network i) x y))
+      → (c.answer ≡ Ok b) ↔ ((reach_call_trouble c ≡ none) × (b ≡ reaches (network i) x y))
   reach_done_when c =
       said_as (done_exactly reach_told reach_told_once 1 c.answer _ _ _ c.promise.told_is refl) yes_value
 
   pub reach_refused_when : {x y : ℕ} (c : ReachCall i x y) {r : Trouble}
-      → (c.answer ≡ ReachAnswer.Refused r) ↔ (reach_call_trouble c ≡ some r)
+      → (c.answer ≡ Err r) ↔ (reach_call_trouble c ≡ some r)
   reach_refused_when c = refused_exactly reach_told reach_told_once 1 c.answer _ _ _ c.promise.told_is refl
 
   -- SKELETON
   pub skeleton_done_when : (c : SkeletonCall i) {k : ℕ}
-      → (c.answer ≡ SkeletonAnswer.Done k) ↔ ((skeleton_call_trouble c ≡ none) × (k ≡ length (skeleton (network i))))
+      → (c.answer ≡ Ok k) ↔ ((skeleton_call_trouble c ≡ none) × (k ≡ length (skeleton (network i))))
   skeleton_done_when c =
       said_as (done_exactly skeleton_told skeleton_told_once 1 c.answer _ _ _ c.promise.told_is refl) one_value
 
   pub skeleton_refused_when : (c : SkeletonCall i) {r : Trouble}
-      → (c.answer ≡ SkeletonAnswer.Refused r) ↔ (skeleton_call_trouble c ≡ some r)
+      → (c.answer ≡ Err r) ↔ (skeleton_call_trouble c ≡ some r)
   skeleton_refused_when c =
       refused_exactly skeleton_told skeleton_told_once 1 c.answer _ _ _ c.promise.told_is refl
 
   -- PLAN
   pub plan_done_when : (c : PlanCall i) {s t q p need : ℕ}
-      → (c.answer ≡ PlanAnswer.Done s t q p need)
+      → (c.answer ≡ plan_done s t q p need)
       ↔ ((plan_call_trouble c ≡ none) × PlanCounts (network i) s t q p need)
   plan_done_when c =
       said_as (done_exactly plan_told plan_told_once 5 c.answer _ _ _ c.promise.told_is refl) counts_value
 
   pub plan_refused_when : (c : PlanCall i) {r : Trouble}
-      → (c.answer ≡ PlanAnswer.Refused r) ↔ (plan_call_trouble c ≡ some r)
+      → (c.answer ≡ Err r) ↔ (plan_call_trouble c ≡ some r)
   plan_refused_when c = refused_exactly plan_told plan_told_once 5 c.answer _ _ _ c.promise.told_is refl
 
   -- PLAN over records
   pub records_done_when : (c : RecordsCall i) {s t q p need : ℕ}
-      → (c.answer ≡ PlanAnswer.Done s t q p need)
+      → (c.answer ≡ plan_done s t q p need)
       ↔ ((records_call_trouble c ≡ none) × PlanCounts (network i) s t q p need)
   records_done_when c =
       said_as (done_exactly plan_told plan_told_once 5 c.answer _ _ _ c.promise.told_is refl) counts_value
 
   pub records_refused_when : (c : RecordsCall i) {r : Trouble}
-      → (c.answer ≡ PlanAnswer.Refused r) ↔ (records_call_trouble c ≡ some r)
+      → (c.answer ≡ Err r) ↔ (records_call_trouble c ≡ some r)
   records_refused_when c = refused_exactly plan_told plan_told_once 5 c.answer _ _ _ c.promise.told_is refl
 
 -- READ: what is said of a file is DONE exactly where it is read whole, with its two counts
@@ -182,14 +178,14 @@ found_refused (bad t) {r} =
     (λ e. ap bad (refused_once 2 t r e), λ p. ap (refused 2) (let q : t ≡ r = cc in q))
 
 module _ {file : List ℕ} (c : ReadCall file) where
-  pub read_done_when : {n m : ℕ} → (c.answer ≡ ReadAnswer.Done n m)
+  pub read_done_when : {n m : ℕ} → (c.answer ≡ read_done n m)
       ↔ ((g : Given) × (end : ℕ) × (read_found c ≡ got g end) × (n ≡ g.zones) × (m ≡ length g.arcs))
   read_done_when = (
     λ p. (found_done (read_found c)).0 (sym c.promise.told_is ∙ ap read_told p),
     λ p. read_told_once c.answer _ (c.promise.told_is ∙ (found_done (read_found c)).1 p),
   )
 
-  pub read_refused_when : {r : Trouble} → (c.answer ≡ ReadAnswer.Refused r) ↔ (read_found c ≡ bad r)
+  pub read_refused_when : {r : Trouble} → (c.answer ≡ Err r) ↔ (read_found c ≡ bad r)
   read_refused_when = (
     λ p. (found_refused (read_found c)).0 (sym c.promise.told_is ∙ ap read_told p),
     λ p. read_told_once c.answer _ (c.promise.told_is ∙ (found_refused (read_found c)).1 p),

@@ -18,13 +18,8 @@ use mathlib.Core.Path.{◌≡◌}
 use mathlib.Core.List.{List, Memᴰ as In}
 use mathlib.Core.Option.{Option}
 use lib.ListN.{length, take}
+use Rattle.rules.specs.Answers.{ReadAnswer, WriteAnswer, StrongAnswer, ReachAnswer, SkeletonAnswer, PlanAnswer}
 use Rattle.rules.specs.declared.Trouble.{Trouble}
-use Rattle.rules.specs.declared.ReadAnswer.{ReadAnswer}
-use Rattle.rules.specs.declared.WriteAnswer.{WriteAnswer}
-use Rattle.rules.specs.declared.StrongAnswer.{StrongAnswer}
-use Rattle.rules.specs.declared.ReachAnswer.{ReachAnswer}
-use Rattle.rules.specs.declared.SkeletonAnswer.{SkeletonAnswer}
-use Rattle.rules.specs.declared.PlanAnswer.{PlanAnswer}
 use Rattle.rules.specs.declared.Link.{Link}
 use Rattle.rules.specs.Answers.{read_told, write_told, strong_told, reach_told, skeleton_told, plan_told}
 use Rattle.rules.specs.Network.{Network, remaining}

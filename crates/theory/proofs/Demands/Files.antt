@@ -14,8 +14,8 @@ use native.Mathlib.Omega.{arith}
 use mathlib.Core.Path.{◌≡◌, refl, sym, ap, ap₂, ◌∙◌}
 use mathlib.Core.List.{List, []}
 use lib.ListN.{length, take, length-map}
-use Rattle.rules.specs.declared.ReadAnswer.{ReadAnswer}
-use Rattle.rules.specs.declared.WriteAnswer.{WriteAnswer}
+use Rattle.rules.specs.Answers.{read_done}
+use Rattle.std.specs.Prelude.{Ok}
 use Rattle.rules.specs.Network.{arc_tails, arc_heads}
 use Rattle.rules.specs.Number.{got}
 use Rattle.rules.specs.File.{Given, file_bytes, file_at}
@@ -37,7 +37,7 @@ abbrev pub file_left : {i : HandedIn} → WriteCall i → ℕ → List ℕ
 file_left c k = take k c.left
 
 -- they are the file of the network
-pub write_leaves : {i : HandedIn} (c : WriteCall i) {k : ℕ} → c.answer ≡ WriteAnswer.Done k
+pub write_leaves : {i : HandedIn} (c : WriteCall i) {k : ℕ} → c.answer ≡ Ok k
     → file_left c k ≡ file_bytes (as_given i)
 unfolding written
 write_leaves c {k} e =
@@ -58,10 +58,10 @@ read_leaves c {g} e =
 
 -- READ on what WRITE put out, with lists that are long enough, says the same zone count and arc count, and leaves the
 -- same tails and heads in front of its lists, whatever is withdrawn: that list is kept beside the file
-pub read_after_write : {i : HandedIn} (c : WriteCall i) {k : ℕ} → c.answer ≡ WriteAnswer.Done k
+pub read_after_write : {i : HandedIn} (c : WriteCall i) {k : ℕ} → c.answer ≡ Ok k
     → (d : ReadCall (file_left c k)) → length i.tails ≤ length d.lent.tails
     → length i.tails ≤ length d.lent.heads
-    → (d.answer ≡ ReadAnswer.Done i.zones (length i.tails))
+    → (d.answer ≡ read_done i.zones (length i.tails))
     × (front_of i.zones (length i.tails) d.left i.gone ≡ i)
 read_after_write {i} c e d long_tails long_heads =
     let g : Given = as_given i in
@@ -82,7 +82,7 @@ read_after_write {i} c e d long_tails long_heads =
       },
     )
 
-module _ {file : List ℕ} (c : ReadCall file) {n m : ℕ} (e : c.answer ≡ ReadAnswer.Done n m) where
+module _ {file : List ℕ} (c : ReadCall file) {n m : ℕ} (e : c.answer ≡ read_done n m) where
   -- what READ left is the network that it found, whatever is withdrawn beside it
   read_handed : (gone : List ℕ) → as_given (front_of n m c.left gone) ≡ ((read_done_when c).0 e).0
   read_handed gone =
@@ -110,28 +110,28 @@ module _ {file : List ℕ} (c : ReadCall file) {n m : ℕ} (e : c.answer ≡ Rea
   -- the file's length and puts out the very file
   pub write_after_read_with : Bytes file → {gone : List ℕ} → IsAccepted (front_of n m c.left gone)
       → (d : WriteCall (front_of n m c.left gone)) → length file ≤ length d.lent
-      → (d.answer ≡ WriteAnswer.Done (length file)) × (file_left d (length file) ≡ file)
+      → (d.answer ≡ Ok (length file)) × (file_left d (length file) ≡ file)
   unfolding written
   write_after_read_with bytes {gone} a d long =
       let whole : file_bytes (as_given (front_of n m c.left gone)) ≡ file =
       ap file_bytes (read_handed gone) ∙ sym (accepted_is_written file bytes _ _ ((read_done_when c).0 e).2).0 in
-      let says = write_answers a d (rw whole long, tt) ∙ ap WriteAnswer.Done (ap length whole) in
+      let says = write_answers a d (rw whole long, tt) ∙ ap Ok (ap length whole) in
       (says, write_leaves d says ∙ whole)
 
   -- so it does where no number is withdrawn
   pub write_after_read : Bytes file → (d : WriteCall (front_of n m c.left [])) → length file ≤ length d.lent
-      → (d.answer ≡ WriteAnswer.Done (length file)) × (file_left d (length file) ≡ file)
+      → (d.answer ≡ Ok (length file)) × (file_left d (length file) ≡ file)
   write_after_read bytes d long = write_after_read_with bytes read_left_accepted d long
 
 -- a file that READ accepts has at most 16,388 bytes
-pub read_length : {file : List ℕ} (c : ReadCall file) {n m : ℕ} → c.answer ≡ ReadAnswer.Done n m
+pub read_length : {file : List ℕ} (c : ReadCall file) {n m : ℕ} → c.answer ≡ read_done n m
     → length file ≤ 16388
 read_length {file} c e = accepted_length file _ _ ((read_done_when c).0 e).2
 
 -- and one that has so many it accepts, with lists that are long enough
 pub read_longest : (c : ReadCall (file_bytes longest)) → 4096 ≤ length c.lent.tails
     → 4096 ≤ length c.lent.heads
-    → (length (file_bytes longest) ≡ 16388) × (c.answer ≡ ReadAnswer.Done 1024 4096)
+    → (length (file_bytes longest) ≡ 16388) × (c.answer ≡ read_done 1024 4096)
 unfolding longest
 read_longest c long_tails long_heads =
     let count = longest_arcs in (

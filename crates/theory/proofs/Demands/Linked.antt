@@ -23,9 +23,9 @@ use mathlib.Core.List.{List, [], ◌∷◌, ◌++◌, map, zip_with, Memᴰ as I
 use lib.ListN.{length, length-append, length-map}
 use lib.Dec.{ltb, eqb}
 use borrow.Author.Tests.{ltb-true, ltb-false, eqb-true, eqb-false, lt-ltb, le-ltb, eq-eqb, ne_eqb}
+use Rattle.std.specs.Prelude.{Ok, Err}
 use Rattle.rules.specs.declared.Trouble.{Trouble}
 use Rattle.rules.specs.declared.TroubleKind.TheVariants.{Arcs, Room}
-use Rattle.rules.specs.declared.StrongAnswer.{StrongAnswer}
 use Rattle.rules.specs.Answers.{refusal}
 use Rattle.rules.specs.Network.{Arc, ◌⟶◌, Network, remaining, network_with, added, same, Strong}
 use Rattle.rules.specs.File.{zones_bad}
@@ -104,7 +104,7 @@ module _ {i : HandedIn} (a : IsAccepted i) (us vs : List ℕ) (paired : length u
   extended_network = ap (λ (es : List Arc). network_with i.zones es i.gone) extended_arcs
 
   -- STRONG called on it says yes
-  pub extended_strong : (d : StrongCall (extended i us vs)) {b : Bool} → d.answer ≡ StrongAnswer.Done b → b ≡ true
+  pub extended_strong : (d : StrongCall (extended i us vs)) {b : Bool} → d.answer ≡ Ok b → b ≡ true
   extended_strong d e =
       (strong_says d e).yes_when.1 (rw extended_network (plan_strong (accepted_proper i a)))
 
@@ -162,7 +162,7 @@ module _ {i : HandedIn} (a : IsAccepted i) (us vs : List ℕ) (paired : length u
       goes_on _ _ (ap not both) ∙ goes_on _ _ zones ∙ stops _ _ (lt-ltb 4096 (length (i.tails ++ us)) many)
 
   -- STRONG called on it refuses for ARCS only where there are more than 4,096 arcs, and else for ROOM
-  pub extended_refused : (d : StrongCall (extended i us vs)) {r : Trouble} → d.answer ≡ StrongAnswer.Refused r
+  pub extended_refused : (d : StrongCall (extended i us vs)) {r : Trouble} → d.answer ≡ Err r
       → ((r ≡ refusal Arcs 0) × (4096 < length (i.tails ++ us))) ⊎ (r ≡ refusal Room 0)
   unfolding strong_trouble
   extended_refused d {r} e =

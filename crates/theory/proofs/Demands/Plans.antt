@@ -20,11 +20,10 @@ use mathlib.Core.Bool.{Bool, true}
 use mathlib.Core.List.{List, map}
 use mathlib.Core.Option.{none}
 use lib.ListN.{length, take, length-map}
+use Rattle.rules.specs.Answers.{plan_done}
+use Rattle.std.specs.Prelude.{Ok, Err}
 use Rattle.rules.specs.declared.Trouble.{Trouble}
 use Rattle.rules.specs.declared.TroubleKind.TheVariants.{Arcs, Room}
-use Rattle.rules.specs.declared.StrongAnswer.{StrongAnswer}
-use Rattle.rules.specs.declared.SkeletonAnswer.{SkeletonAnswer}
-use Rattle.rules.specs.declared.PlanAnswer.{PlanAnswer}
 use Rattle.rules.specs.Lists.{over}
 use Rattle.rules.specs.Answers.{refusal}
 use Rattle.rules.specs.Network.{Arc, remaining, Proper, Strong}
@@ -66,7 +65,7 @@ pub plan_leaves : {i : HandedIn} (c : PlanCall i) → plan_call_trouble c ≡ no
 plan_leaves c e =
     link_lists_are (rw e at c.promise.from_left) (rw e at c.promise.to_left) (rw e at c.promise.why_left)
 
-module _ {i : HandedIn} (c : PlanCall i) {s t q p need : ℕ} (e : c.answer ≡ PlanAnswer.Done s t q p need) where
+module _ {i : HandedIn} (c : PlanCall i) {s t q p need : ℕ} (e : c.answer ≡ plan_done s t q p need) where
   -- the network is proper
   proper : Proper (network i)
   proper = accepted_proper i (plan_accepts c e)
@@ -126,22 +125,22 @@ module _ {i : HandedIn} (c : PlanCall i) {s t q p need : ℕ} (e : c.answer ≡ 
       ∙ sym (ap length plan_fronts.1)
 
   -- STRONG called on the network with the links added says yes
-  pub strong_after_plan : (d : StrongCall (with_put_out c need)) {b : Bool} → d.answer ≡ StrongAnswer.Done b
+  pub strong_after_plan : (d : StrongCall (with_put_out c need)) {b : Bool} → d.answer ≡ Ok b
       → b ≡ true
   strong_after_plan = extended_strong (plan_accepts c e) _ _ fronts_paired put_out_plan
 
   -- it refuses for ARCS only where there are more than 4,096 arcs with them, and else for ROOM
   pub strong_after_plan_refused : (d : StrongCall (with_put_out c need)) {r : Trouble}
-      → d.answer ≡ StrongAnswer.Refused r
+      → d.answer ≡ Err r
       → ((r ≡ refusal Arcs 0) × (4096 < length (with_put_out c need).tails)) ⊎ (r ≡ refusal Room 0)
   strong_after_plan_refused = extended_refused (plan_accepts c e) _ _ fronts_paired put_out_plan
 
 -- networks of which SKELETON left the same, with equal withdrawn numbers, get from PLAN the same answer, and the same
 -- lists where the same were lent
 pub same_skeleton_outputs : {i j : HandedIn} (c : SkeletonCall i) (d : SkeletonCall j) {k l : ℕ}
-    → c.answer ≡ SkeletonAnswer.Done k → d.answer ≡ SkeletonAnswer.Done l → skeleton_left c k ≡ skeleton_left d l
-    → (x : PlanCall i) (y : PlanCall j) {s t q p need : ℕ} → x.answer ≡ PlanAnswer.Done s t q p need
-    → {s' t' q' p' need' : ℕ} → y.answer ≡ PlanAnswer.Done s' t' q' p' need' → x.lent ≡ y.lent
+    → c.answer ≡ Ok k → d.answer ≡ Ok l → skeleton_left c k ≡ skeleton_left d l
+    → (x : PlanCall i) (y : PlanCall j) {s t q p need : ℕ} → x.answer ≡ plan_done s t q p need
+    → {s' t' q' p' need' : ℕ} → y.answer ≡ plan_done s' t' q' p' need' → x.lent ≡ y.lent
     → (x.answer ≡ y.answer) × (x.left ≡ y.left)
 same_skeleton_outputs {i} {j} c d done_c done_d same x y done_x done_y lent =
     let both = same_skeletons c d done_c done_d same in

@@ -18,16 +18,11 @@ use mathlib.Core.Option.{Option, none, some}
 use lib.ListN.{length, get_or, take}
 use lib.Dec.{leb, eqb}
 use borrow.Author.Tests.{ltb-true, leb-true, eqb-true, leb-false, eqb-false, not-true, not-false}
+use Rattle.std.specs.Prelude.{Err}
 use Rattle.rules.specs.declared.TroubleKind.{TroubleKind}
 use Rattle.rules.specs.declared.TroubleKind.TheVariants.{Short, Long, Loose, Zones, Arcs, Range, SelfArc}
 use Rattle.rules.specs.declared.TroubleKind.TheVariants.{Extra, Room, Pair, Head, ZoneList, None, Gone}
 use Rattle.rules.specs.declared.Trouble.{Trouble}
-use Rattle.rules.specs.declared.ReadAnswer.{ReadAnswer}
-use Rattle.rules.specs.declared.WriteAnswer.{WriteAnswer}
-use Rattle.rules.specs.declared.StrongAnswer.{StrongAnswer}
-use Rattle.rules.specs.declared.ReachAnswer.{ReachAnswer}
-use Rattle.rules.specs.declared.SkeletonAnswer.{SkeletonAnswer}
-use Rattle.rules.specs.declared.PlanAnswer.{PlanAnswer}
 use Rattle.rules.specs.Lists.{span, every, listed}
 use Rattle.rules.specs.Answers.{refusal}
 use Rattle.rules.specs.Network.{Ascending}
@@ -53,25 +48,25 @@ use Rattle.theory.proofs.Demands.Accepts.{strong_rooms, reach_rooms, skeleton_ro
 use Rattle.theory.proofs.Demands.Accepts.{records_rooms}
 
 -- READ: what its refusal names is wrong at that place of the file
-pub read_points : {file : List ℕ} (c : ReadCall file) {r : Trouble} → c.answer ≡ ReadAnswer.Refused r
+pub read_points : {file : List ℕ} (c : ReadCall file) {r : Trouble} → c.answer ≡ Err r
     → Points file (length c.lent.tails) (length c.lent.heads) r
 read_points {file} c e = file_points file _ _ ((read_refused_when c).0 e)
 
 -- and the number that this place is in is found by counting: before it as many numbers end as bytes below 128 stand
-pub read_counted : {file : List ℕ} (c : ReadCall file) {r : Trouble} → c.answer ≡ ReadAnswer.Refused r
+pub read_counted : {file : List ℕ} (c : ReadCall file) {r : Trouble} → c.answer ≡ Err r
     → CountedTo file r.place
 read_counted {file} c e = file_counted file _ _ ((read_refused_when c).0 e)
 
 -- RANGE: there the tail of some arc i begins, and it is no zone. Of the bytes before, 2 + 2 i are below 128: each ends
 -- a number, so the arc is found by counting.
-pub read_range : {file : List ℕ} (c : ReadCall file) {p : ℕ} → c.answer ≡ ReadAnswer.Refused (refusal Range p)
+pub read_range : {file : List ℕ} (c : ReadCall file) {p : ℕ} → c.answer ≡ Err (refusal Range p)
     → (n i z : ℕ) × TailAt file n i p z × (n ≤ z) × (ends_before file p ≡ 2 + 2 * i)
 read_range {file} c e =
     let w = read_points c e in
     (w.0, w.1, w.2, w.3, w.4, begins_count file w.3.number.begins)
 
 -- HEAD: there the head of some arc i begins, and it is no zone. Of the bytes before, 3 + 2 i are below 128.
-pub read_head : {file : List ℕ} (c : ReadCall file) {p : ℕ} → c.answer ≡ ReadAnswer.Refused (refusal Head p)
+pub read_head : {file : List ℕ} (c : ReadCall file) {p : ℕ} → c.answer ≡ Err (refusal Head p)
     → (n i z : ℕ) × HeadAt file n i p z × (n ≤ z) × (ends_before file p ≡ 3 + 2 * i)
 read_head {file} c e =
     let w = read_points c e in
@@ -286,37 +281,37 @@ all_tell i q ps e =
 
 module _ {i : HandedIn} where
   -- WRITE
-  pub write_points : (c : WriteCall i) {r : Trouble} → c.answer ≡ WriteAnswer.Refused r
+  pub write_points : (c : WriteCall i) {r : Trouble} → c.answer ≡ Err r
       → Tells i none (write_rooms c) r
   unfolding write_trouble
   write_points c e = all_tell i none (write_rooms c) ((write_refused_when c).0 e)
 
   -- STRONG
-  pub strong_points : (c : StrongCall i) {r : Trouble} → c.answer ≡ StrongAnswer.Refused r
+  pub strong_points : (c : StrongCall i) {r : Trouble} → c.answer ≡ Err r
       → Tells i none (strong_rooms c) r
   unfolding strong_trouble
   strong_points c e = all_tell i none (strong_rooms c) ((strong_refused_when c).0 e)
 
   -- REACH, from x to y
-  pub reach_points : {x y : ℕ} (c : ReachCall i x y) {r : Trouble} → c.answer ≡ ReachAnswer.Refused r
+  pub reach_points : {x y : ℕ} (c : ReachCall i x y) {r : Trouble} → c.answer ≡ Err r
       → Tells i (some (x, y)) (reach_rooms c) r
   unfolding reach_trouble
   reach_points {x} {y} c e = all_tell i (some (x, y)) (reach_rooms c) ((reach_refused_when c).0 e)
 
   -- SKELETON
-  pub skeleton_points : (c : SkeletonCall i) {r : Trouble} → c.answer ≡ SkeletonAnswer.Refused r
+  pub skeleton_points : (c : SkeletonCall i) {r : Trouble} → c.answer ≡ Err r
       → Tells i none (skeleton_rooms c) r
   unfolding skeleton_trouble
   skeleton_points c e = all_tell i none (skeleton_rooms c) ((skeleton_refused_when c).0 e)
 
   -- PLAN
-  pub plan_points : (c : PlanCall i) {r : Trouble} → c.answer ≡ PlanAnswer.Refused r
+  pub plan_points : (c : PlanCall i) {r : Trouble} → c.answer ≡ Err r
       → Tells i none (plan_rooms c) r
   unfolding plan_trouble
   plan_points c e = all_tell i none (plan_rooms c) ((plan_refused_when c).0 e)
 
   -- PLAN over records
-  pub records_points : (c : RecordsCall i) {r : Trouble} → c.answer ≡ PlanAnswer.Refused r
+  pub records_points : (c : RecordsCall i) {r : Trouble} → c.answer ≡ Err r
       → Tells i none (records_rooms c) r
   unfolding records_trouble
   records_points c e = all_tell i none (records_rooms c) ((records_refused_when c).0 e)

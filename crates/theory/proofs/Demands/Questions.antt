@@ -7,8 +7,7 @@ use Prim.Native.Nat.{ℕ}
 use mathlib.Core.Path.{◌≡◌, sym, ◌∙◌}
 use mathlib.Core.Logic.{◌↔◌}
 use mathlib.Core.Bool.{Bool, true, false}
-use Rattle.rules.specs.declared.StrongAnswer.{StrongAnswer}
-use Rattle.rules.specs.declared.ReachAnswer.{ReachAnswer}
+use Rattle.std.specs.Prelude.{Ok}
 use Rattle.rules.specs.Network.{Proper, Reach, Strong, reaches, strong}
 use Rattle.theory.proofs.Ground.Bools.{true_not_false, false_unless}
 use Rattle.theory.proofs.Reaching.Reach.{reaches_sound, reaches_complete, strong_sound, strong_complete}
@@ -30,13 +29,13 @@ test_says b t e sound complete = record {
 
 module _ {i : HandedIn} where
   -- STRONG says yes exactly when every zone that remains reaches every other
-  pub strong_says : (c : StrongCall i) {b : Bool} → c.answer ≡ StrongAnswer.Done b → Says b (Strong (network i))
+  pub strong_says : (c : StrongCall i) {b : Bool} → c.answer ≡ Ok b → Says b (Strong (network i))
   strong_says c {b} e =
       let proper : Proper (network i) = accepted_proper i (strong_accepts c e) in
       test_says b (strong (network i)) ((strong_done_when c).0 e).1 (strong_sound (network i)) (strong_complete proper)
 
   -- REACH says yes exactly when zone x reaches zone y; both remain (`reach_asked`)
-  pub reach_says : {x y : ℕ} (c : ReachCall i x y) {b : Bool} → c.answer ≡ ReachAnswer.Done b
+  pub reach_says : {x y : ℕ} (c : ReachCall i x y) {b : Bool} → c.answer ≡ Ok b
       → Says b (Reach (network i) x y)
   reach_says {x} {y} c {b} e =
       let proper : Proper (network i) = accepted_proper i (reach_accepts c e) in

@@ -19,11 +19,10 @@ use mathlib.Core.Logic.{◌⊎◌}
 use mathlib.Core.Bool.{Bool, true}
 use mathlib.Core.List.{List, [], ◌∷◌, map}
 use lib.ListN.{length, take, length-map}
+use Rattle.rules.specs.Answers.{plan_done}
+use Rattle.std.specs.Prelude.{Ok, Err}
 use Rattle.rules.specs.declared.Trouble.{Trouble}
 use Rattle.rules.specs.declared.TroubleKind.TheVariants.{Arcs, Room}
-use Rattle.rules.specs.declared.StrongAnswer.{StrongAnswer}
-use Rattle.rules.specs.declared.SkeletonAnswer.{SkeletonAnswer}
-use Rattle.rules.specs.declared.PlanAnswer.{PlanAnswer}
 use Rattle.rules.specs.declared.Link.{Link as RecordLink}
 use Rattle.rules.specs.declared.Why.{Why as RecordWhy}
 use Rattle.rules.specs.Lists.{over}
@@ -68,7 +67,7 @@ records_out c need = arcs_of (record_starts (take need c.left)) (record_ends (ta
 abbrev pub with_records_out : {i : HandedIn} → RecordsCall i → ℕ → HandedIn
 with_records_out {i} c need = extended i (record_starts (take need c.left)) (record_ends (take need c.left))
 
-module _ {i : HandedIn} (c : RecordsCall i) {s t q p need : ℕ} (e : c.answer ≡ PlanAnswer.Done s t q p need) where
+module _ {i : HandedIn} (c : RecordsCall i) {s t q p need : ℕ} (e : c.answer ≡ plan_done s t q p need) where
   -- the network is proper
   proper : Proper (network i)
   proper = accepted_proper i (records_accepts c e)
@@ -130,22 +129,22 @@ module _ {i : HandedIn} (c : RecordsCall i) {s t q p need : ℕ} (e : c.answer �
   columns_paired = length-map (take need c.left) _ ∙ sym (length-map (take need c.left) _)
 
   -- STRONG called on the network with the links added says yes
-  pub strong_after_records : (d : StrongCall (with_records_out c need)) {b : Bool} → d.answer ≡ StrongAnswer.Done b
+  pub strong_after_records : (d : StrongCall (with_records_out c need)) {b : Bool} → d.answer ≡ Ok b
       → b ≡ true
   strong_after_records = extended_strong (records_accepts c e) _ _ columns_paired records_out_plan
 
   -- it refuses for ARCS only where there are more than 4,096 arcs with them, and else for ROOM
   pub strong_after_records_refused : (d : StrongCall (with_records_out c need)) {r : Trouble}
-      → d.answer ≡ StrongAnswer.Refused r
+      → d.answer ≡ Err r
       → ((r ≡ refusal Arcs 0) × (4096 < length (with_records_out c need).tails)) ⊎ (r ≡ refusal Room 0)
   strong_after_records_refused = extended_refused (records_accepts c e) _ _ columns_paired records_out_plan
 
 -- networks of which SKELETON left the same, with equal withdrawn numbers, get from PLAN the same answer, and the same
 -- records where the same were lent
 pub same_skeleton_records : {i j : HandedIn} (c : SkeletonCall i) (d : SkeletonCall j) {k l : ℕ}
-    → c.answer ≡ SkeletonAnswer.Done k → d.answer ≡ SkeletonAnswer.Done l → skeleton_left c k ≡ skeleton_left d l
-    → (x : RecordsCall i) (y : RecordsCall j) {s t q p need : ℕ} → x.answer ≡ PlanAnswer.Done s t q p need
-    → {s' t' q' p' need' : ℕ} → y.answer ≡ PlanAnswer.Done s' t' q' p' need' → x.lent ≡ y.lent
+    → c.answer ≡ Ok k → d.answer ≡ Ok l → skeleton_left c k ≡ skeleton_left d l
+    → (x : RecordsCall i) (y : RecordsCall j) {s t q p need : ℕ} → x.answer ≡ plan_done s t q p need
+    → {s' t' q' p' need' : ℕ} → y.answer ≡ plan_done s' t' q' p' need' → x.lent ≡ y.lent
     → (x.answer ≡ y.answer) × (x.left ≡ y.left)
 same_skeleton_records {i} {j} c d done_c done_d same x y done_x done_y lent =
     let both = same_skeletons c d done_c done_d same in

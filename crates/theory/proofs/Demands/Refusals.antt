@@ -8,13 +8,8 @@ use Prim.Native.Nat.{ℕ}
 use mathlib.Core.Path.{◌≡◌, refl}
 use mathlib.Core.List.{List}
 use mathlib.Core.Option.{some}
+use Rattle.std.specs.Prelude.{Err}
 use Rattle.rules.specs.declared.Trouble.{Trouble}
-use Rattle.rules.specs.declared.ReadAnswer.{ReadAnswer}
-use Rattle.rules.specs.declared.WriteAnswer.{WriteAnswer}
-use Rattle.rules.specs.declared.StrongAnswer.{StrongAnswer}
-use Rattle.rules.specs.declared.ReachAnswer.{ReachAnswer}
-use Rattle.rules.specs.declared.SkeletonAnswer.{SkeletonAnswer}
-use Rattle.rules.specs.declared.PlanAnswer.{PlanAnswer}
 use Rattle.rules.specs.Calls.{leaves_work}
 use Rattle.theory.proofs.Demands.Calls.{HandedIn, arc_lists_are, link_lists_are, ReadCall, WriteCall}
 use Rattle.theory.proofs.Demands.Calls.{StrongCall, ReachCall, SkeletonCall, PlanCall, RecordsCall}
@@ -23,7 +18,7 @@ use Rattle.theory.proofs.Demands.Answers.{reach_refused_when, skeleton_refused_w
 use Rattle.theory.proofs.Demands.Answers.{records_refused_when}
 
 -- READ refuses: neither list is changed
-pub read_unchanged : {file : List ℕ} (c : ReadCall file) {r : Trouble} → c.answer ≡ ReadAnswer.Refused r
+pub read_unchanged : {file : List ℕ} (c : ReadCall file) {r : Trouble} → c.answer ≡ Err r
     → c.left ≡ c.lent
 read_unchanged c p =
     let e = (read_refused_when c).0 p in
@@ -40,28 +35,28 @@ module _ (i : HandedIn) where
 
 module _ {i : HandedIn} where
   -- WRITE refuses: the bytes are as they came
-  pub write_unchanged : (c : WriteCall i) {r : Trouble} → c.answer ≡ WriteAnswer.Refused r → c.left ≡ c.lent
+  pub write_unchanged : (c : WriteCall i) {r : Trouble} → c.answer ≡ Err r → c.left ≡ c.lent
   write_unchanged c p = rw ((write_refused_when c).0 p) at c.promise.bytes
 
   -- STRONG refuses
-  pub strong_unchanged : (c : StrongCall i) {r : Trouble} → c.answer ≡ StrongAnswer.Refused r
+  pub strong_unchanged : (c : StrongCall i) {r : Trouble} → c.answer ≡ Err r
       → c.work' ≡ work_after i r c.work
   strong_unchanged c p = rw ((strong_refused_when c).0 p) at c.promise.work
 
   -- REACH refuses
-  pub reach_unchanged : {x y : ℕ} (c : ReachCall i x y) {r : Trouble} → c.answer ≡ ReachAnswer.Refused r
+  pub reach_unchanged : {x y : ℕ} (c : ReachCall i x y) {r : Trouble} → c.answer ≡ Err r
       → c.work' ≡ work_after i r c.work
   reach_unchanged c p = rw ((reach_refused_when c).0 p) at c.promise.work
 
   -- SKELETON refuses
-  pub skeleton_unchanged : (c : SkeletonCall i) {r : Trouble} → c.answer ≡ SkeletonAnswer.Refused r
+  pub skeleton_unchanged : (c : SkeletonCall i) {r : Trouble} → c.answer ≡ Err r
       → (c.left ≡ c.lent) × (c.work' ≡ work_after i r c.work)
   skeleton_unchanged c p =
       let e = (skeleton_refused_when c).0 p in
       (arc_lists_are (rw e at c.promise.tails) (rw e at c.promise.heads), rw e at c.promise.work)
 
   -- PLAN refuses
-  pub plan_unchanged : (c : PlanCall i) {r : Trouble} → c.answer ≡ PlanAnswer.Refused r
+  pub plan_unchanged : (c : PlanCall i) {r : Trouble} → c.answer ≡ Err r
       → (c.left ≡ c.lent) × (c.work' ≡ work_after i r c.work)
   plan_unchanged c p =
       let e = (plan_refused_when c).0 p in (
@@ -71,7 +66,7 @@ module _ {i : HandedIn} where
       )
 
   -- PLAN over records refuses
-  pub records_unchanged : (c : RecordsCall i) {r : Trouble} → c.answer ≡ PlanAnswer.Refused r
+  pub records_unchanged : (c : RecordsCall i) {r : Trouble} → c.answer ≡ Err r
       → (c.left ≡ c.lent) × (c.work' ≡ work_after i r c.work)
   records_unchanged c p =
       let e = (records_refused_when c).0 p in (rw e at c.promise.links_left, rw e at c.promise.work_left)

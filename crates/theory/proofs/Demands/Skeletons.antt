@@ -18,8 +18,7 @@ use mathlib.Core.Path.{◌≡◌, sym, ap, ap₂, ◌∙◌}
 use mathlib.Core.Logic.{◌↔◌}
 use mathlib.Core.List.{List, Memᴰ as In}
 use lib.ListN.{length, take, length-map}
-use Rattle.rules.specs.declared.WriteAnswer.{WriteAnswer}
-use Rattle.rules.specs.declared.SkeletonAnswer.{SkeletonAnswer}
+use Rattle.std.specs.Prelude.{Ok}
 use Rattle.rules.specs.Network.{Arc, remaining, arc_tails, arc_heads, Reach}
 use Rattle.rules.specs.Skeleton.{skeleton, skeleton_of}
 use Rattle.rules.specs.File.{file_bytes}
@@ -41,7 +40,7 @@ use Rattle.theory.proofs.Demands.Files.{file_left, write_leaves}
 abbrev pub skeleton_left : {i : HandedIn} → SkeletonCall i → ℕ → HandedIn
 skeleton_left {i} c k = front_of i.zones k c.left i.gone
 
-module _ {i : HandedIn} (c : SkeletonCall i) {k : ℕ} (e : c.answer ≡ SkeletonAnswer.Done k) where
+module _ {i : HandedIn} (c : SkeletonCall i) {k : ℕ} (e : c.answer ≡ Ok k) where
   -- its tails and heads are those of the skeleton
   tails_left : (skeleton_left c k).tails ≡ arc_tails (skeleton (network i))
   tails_left =
@@ -117,10 +116,10 @@ module _ {i : HandedIn} (c : SkeletonCall i) {k : ℕ} (e : c.answer ≡ Skeleto
 pub record SkeletonFile (i : HandedIn) : Type 0 where
   pub made : SkeletonCall i
   pub arcs : ℕ
-  pub arcs_said : made.answer ≡ SkeletonAnswer.Done arcs
+  pub arcs_said : made.answer ≡ Ok arcs
   pub put : WriteCall (skeleton_left made arcs)
   pub size : ℕ
-  pub size_said : put.answer ≡ WriteAnswer.Done size
+  pub size_said : put.answer ≡ Ok size
 
 -- its bytes
 abbrev pub skeleton_bytes : {i : HandedIn} → SkeletonFile i → List ℕ
@@ -149,14 +148,14 @@ skeleton_files_equal {i} {j} gone f g =
     )
 
 -- SKELETON called on what SKELETON left, with the same withdrawn numbers
-module _ {i : HandedIn} (c : SkeletonCall i) {k : ℕ} (e : c.answer ≡ SkeletonAnswer.Done k)
+module _ {i : HandedIn} (c : SkeletonCall i) {k : ℕ} (e : c.answer ≡ Ok k)
     (d : SkeletonCall (skeleton_left c k)) where
   -- it is its own skeleton
   own_skeleton : skeleton (network (skeleton_left c k)) ≡ skeleton (network i)
   own_skeleton = ap skeleton (skeleton_network c e) ∙ skeleton_skeleton (accepted_proper i (skeleton_accepts c e))
 
   -- where the call ends with DONE, it says the same count and leaves the same network
-  pub skeleton_again : {l : ℕ} → d.answer ≡ SkeletonAnswer.Done l
+  pub skeleton_again : {l : ℕ} → d.answer ≡ Ok l
       → (l ≡ k) × (skeleton_left d l ≡ skeleton_left c k)
   skeleton_again f = (
     ((skeleton_done_when d).0 f).1 ∙ ap length own_skeleton ∙ sym ((skeleton_done_when c).0 e).1,
@@ -169,14 +168,14 @@ module _ {i : HandedIn} (c : SkeletonCall i) {k : ℕ} (e : c.answer ≡ Skeleto
   )
 
   -- and it does where what is lent is long enough
-  pub skeleton_again_answers : LongEnough (skeleton_rooms d) → d.answer ≡ SkeletonAnswer.Done k
+  pub skeleton_again_answers : LongEnough (skeleton_rooms d) → d.answer ≡ Ok k
   skeleton_again_answers long =
       skeleton_answers (skeleton_left_accepted c e) d long
-      ∙ ap SkeletonAnswer.Done (ap length own_skeleton ∙ sym ((skeleton_done_when c).0 e).1)
+      ∙ ap Ok (ap length own_skeleton ∙ sym ((skeleton_done_when c).0 e).1)
 
 -- where SKELETON left the same of two networks, they have the same zones and the same skeleton
 pub same_skeletons : {i j : HandedIn} (c : SkeletonCall i) (d : SkeletonCall j) {k l : ℕ}
-    → c.answer ≡ SkeletonAnswer.Done k → d.answer ≡ SkeletonAnswer.Done l → skeleton_left c k ≡ skeleton_left d l
+    → c.answer ≡ Ok k → d.answer ≡ Ok l → skeleton_left c k ≡ skeleton_left d l
     → ((network i).zones ≡ (network j).zones) × (skeleton (network i) ≡ skeleton (network j))
 unfolding handed_with
 same_skeletons c d e f same = (

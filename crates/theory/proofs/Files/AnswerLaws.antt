@@ -2,7 +2,8 @@
 --   kind_once          the number of a kind names it
 --   yes_once, yes_few  so does the number of a yes or a no, which is at most 1
 --   done_once, refused_once, done_not_refused      the shared part, over what an answer says
---   read_told_once ..  each call's answers, case by case
+--   answer_once        so does any answer whose values name what is handed out
+--   read_told_once ..  each call's answers
 -- The kinds in the order of their numbers undo `trouble_number`; no kind has number 0, so DONE is told from a refusal.
 -- Assumes nothing.
 use Prim.Native.Nat.{ℕ, ◌-◌, ◌≤◌}
@@ -12,18 +13,14 @@ use mathlib.Core.Bool.{Bool, true, false}
 use mathlib.Core.List.{List, [], ◌∷◌}
 use lib.ListN.{get_or}
 use lib.Dec.{lit≤}
+use Rattle.rules.specs.Answers.{ReadAnswer, WriteAnswer, StrongAnswer, ReachAnswer, SkeletonAnswer, PlanAnswer}
+use Rattle.std.specs.Prelude.{Result, Ok, Err}
 use Rattle.rules.specs.Answers.{trouble_number, refusal, Told, done, refused, yes_number}
 use Rattle.rules.specs.Answers.{read_told, write_told, strong_told, reach_told, skeleton_told, plan_told}
 use Rattle.rules.specs.declared.TroubleKind.{TroubleKind}
 use Rattle.rules.specs.declared.TroubleKind.TheVariants.{Short, Long, Loose, Zones, Arcs, Range, SelfArc}
 use Rattle.rules.specs.declared.TroubleKind.TheVariants.{Extra, Room, Pair, Head, ZoneList, None, Gone}
 use Rattle.rules.specs.declared.Trouble.{Trouble}
-use Rattle.rules.specs.declared.ReadAnswer.{ReadAnswer}
-use Rattle.rules.specs.declared.WriteAnswer.{WriteAnswer}
-use Rattle.rules.specs.declared.StrongAnswer.{StrongAnswer}
-use Rattle.rules.specs.declared.ReachAnswer.{ReachAnswer}
-use Rattle.rules.specs.declared.SkeletonAnswer.{SkeletonAnswer}
-use Rattle.rules.specs.declared.PlanAnswer.{PlanAnswer}
 
 -- the kinds in the order of their numbers, from 1 on
 abbrev kinds : List TroubleKind
@@ -82,47 +79,62 @@ refused_once k t u e =
 pub done_not_refused : (k : ℕ) (vs : List ℕ) (t : Trouble) → done vs ≡ refused k t → ⊥
 done_not_refused k vs t e = omega (arith, (kind_back t.kind).1, ap (λ (a : Told). a.number) e)
 
+-- two answers that say the same are the same, where the values name what is handed out
+answer_once : {A : Type 0} (told : Result A Trouble → Told) (values : A → List ℕ) (k : ℕ)
+    → ((a : A) → told (Ok a) ≡ done (values a)) → ((t : Trouble) → told (Err t) ≡ refused k t)
+    → ((a b : A) → values a ≡ values b → a ≡ b)
+    → (r q : Result A Trouble) → told r ≡ told q → r ≡ q
+answer_once told values k ok err names (Ok a) (Ok b) e = ap Ok (names a b (done_once (sym (ok a) ∙ e ∙ ok b)))
+answer_once told values k ok err names (Ok a) (Err u) e =
+    absurd (done_not_refused k (values a) u (sym (ok a) ∙ e ∙ err u))
+answer_once told values k ok err names (Err t) (Ok b) e =
+    absurd (done_not_refused k (values b) t (sym (ok b) ∙ sym e ∙ err t))
+answer_once told values k ok err names (Err t) (Err u) e = ap Err (refused_once k t u (sym (err t) ∙ e ∙ err u))
+
+-- one number names itself
+number_once : (n m : ℕ) → n ∷ [] ≡ m ∷ [] → n ≡ m
+number_once n m e = ap (λ xs. get_or xs 0 0) e
+
+-- the number of a yes or no does, alone in a list
+answer_yes_once : (a b : Bool) → yes_number a ∷ [] ≡ yes_number b ∷ [] → a ≡ b
+answer_yes_once a b e = yes_once a b (number_once _ _ e)
+
 -- two answers of reading that say the same are the same
 pub read_told_once : (r q : ReadAnswer) → read_told r ≡ read_told q → r ≡ q
-read_told_once (ReadAnswer.Done n m) (ReadAnswer.Done k l) e = let h = done_once e in cc
-read_told_once (ReadAnswer.Done n m) (ReadAnswer.Refused u) e = absurd (done_not_refused 2 _ u e)
-read_told_once (ReadAnswer.Refused t) (ReadAnswer.Done k l) e = absurd (done_not_refused 2 _ t (sym e))
-read_told_once (ReadAnswer.Refused t) (ReadAnswer.Refused u) e = ap ReadAnswer.Refused (refused_once 2 t u e)
+read_told_once =
+    answer_once read_told (λ c. c.zones ∷ c.arcs ∷ []) 2 (λ a. refl) (λ t. refl)
+    (λ a b e. ap (λ xs. record { zones = get_or xs 0 0; arcs = get_or xs 1 0 }) e)
 
 -- two answers of writing that say the same are the same
 pub write_told_once : (r q : WriteAnswer) → write_told r ≡ write_told q → r ≡ q
-write_told_once (WriteAnswer.Done n) (WriteAnswer.Done k) e = let h = done_once e in cc
-write_told_once (WriteAnswer.Done n) (WriteAnswer.Refused u) e = absurd (done_not_refused 1 _ u e)
-write_told_once (WriteAnswer.Refused t) (WriteAnswer.Done k) e = absurd (done_not_refused 1 _ t (sym e))
-write_told_once (WriteAnswer.Refused t) (WriteAnswer.Refused u) e = ap WriteAnswer.Refused (refused_once 1 t u e)
+write_told_once = answer_once write_told (λ n. n ∷ []) 1 (λ a. refl) (λ t. refl) number_once
 
 -- two answers of the strong call that say the same are the same
 pub strong_told_once : (r q : StrongAnswer) → strong_told r ≡ strong_told q → r ≡ q
-strong_told_once (StrongAnswer.Done a) (StrongAnswer.Done b) e =
-    ap StrongAnswer.Done (yes_once a b (let h = done_once e in cc))
-strong_told_once (StrongAnswer.Done a) (StrongAnswer.Refused u) e = absurd (done_not_refused 1 _ u e)
-strong_told_once (StrongAnswer.Refused t) (StrongAnswer.Done b) e = absurd (done_not_refused 1 _ t (sym e))
-strong_told_once (StrongAnswer.Refused t) (StrongAnswer.Refused u) e = ap StrongAnswer.Refused (refused_once 1 t u e)
+strong_told_once =
+    answer_once strong_told (λ b. yes_number b ∷ []) 1 (λ a. refl) (λ t. refl) answer_yes_once
 
 -- two answers of the reach call that say the same are the same
 pub reach_told_once : (r q : ReachAnswer) → reach_told r ≡ reach_told q → r ≡ q
-reach_told_once (ReachAnswer.Done a) (ReachAnswer.Done b) e =
-    ap ReachAnswer.Done (yes_once a b (let h = done_once e in cc))
-reach_told_once (ReachAnswer.Done a) (ReachAnswer.Refused u) e = absurd (done_not_refused 1 _ u e)
-reach_told_once (ReachAnswer.Refused t) (ReachAnswer.Done b) e = absurd (done_not_refused 1 _ t (sym e))
-reach_told_once (ReachAnswer.Refused t) (ReachAnswer.Refused u) e = ap ReachAnswer.Refused (refused_once 1 t u e)
+reach_told_once =
+    answer_once reach_told (λ b. yes_number b ∷ []) 1 (λ a. refl) (λ t. refl) answer_yes_once
 
 -- two answers of the skeleton call that say the same are the same
 pub skeleton_told_once : (r q : SkeletonAnswer) → skeleton_told r ≡ skeleton_told q → r ≡ q
-skeleton_told_once (SkeletonAnswer.Done n) (SkeletonAnswer.Done k) e = let h = done_once e in cc
-skeleton_told_once (SkeletonAnswer.Done n) (SkeletonAnswer.Refused u) e = absurd (done_not_refused 1 _ u e)
-skeleton_told_once (SkeletonAnswer.Refused t) (SkeletonAnswer.Done k) e = absurd (done_not_refused 1 _ t (sym e))
-skeleton_told_once (SkeletonAnswer.Refused t) (SkeletonAnswer.Refused u) e =
-    ap SkeletonAnswer.Refused (refused_once 1 t u e)
+skeleton_told_once = answer_once skeleton_told (λ n. n ∷ []) 1 (λ a. refl) (λ t. refl) number_once
 
 -- two answers of the plan call that say the same are the same
 pub plan_told_once : (r q : PlanAnswer) → plan_told r ≡ plan_told q → r ≡ q
-plan_told_once (PlanAnswer.Done s t q p n) (PlanAnswer.Done s' t' q' p' n') e = let h = done_once e in cc
-plan_told_once (PlanAnswer.Done s t q p n) (PlanAnswer.Refused u) e = absurd (done_not_refused 5 _ u e)
-plan_told_once (PlanAnswer.Refused u) (PlanAnswer.Done s t q p n) e = absurd (done_not_refused 5 _ u (sym e))
-plan_told_once (PlanAnswer.Refused t) (PlanAnswer.Refused u) e = ap PlanAnswer.Refused (refused_once 5 t u e)
+plan_told_once =
+    answer_once plan_told (λ c. c.sources ∷ c.sinks ∷ c.alone ∷ c.pairs ∷ c.need ∷ []) 5 (λ a. refl) (λ t. refl)
+    (λ a b e.
+    ap
+    (λ xs.
+    record {
+      sources = get_or xs 0 0;
+      sinks = get_or xs 1 0;
+      alone = get_or xs 2 0;
+      pairs = get_or xs 3 0;
+      need = get_or xs 4 0;
+    })
+    e)

@@ -5,12 +5,7 @@
 use Prim.Native.Nat.{ℕ}
 use mathlib.Core.Path.{◌≡◌, sym, ◌∙◌}
 use mathlib.Core.List.{List}
-use Rattle.rules.specs.declared.ReadAnswer.{ReadAnswer}
-use Rattle.rules.specs.declared.WriteAnswer.{WriteAnswer}
-use Rattle.rules.specs.declared.StrongAnswer.{StrongAnswer}
-use Rattle.rules.specs.declared.ReachAnswer.{ReachAnswer}
-use Rattle.rules.specs.declared.SkeletonAnswer.{SkeletonAnswer}
-use Rattle.rules.specs.declared.PlanAnswer.{PlanAnswer}
+use Rattle.rules.specs.Answers.{ReadAnswer, WriteAnswer, StrongAnswer, ReachAnswer, SkeletonAnswer, PlanAnswer}
 use Rattle.rules.specs.declared.Link.{Link}
 use Rattle.rules.specs.Answers.{read_told, write_told, strong_told, reach_told, skeleton_told, plan_told}
 use Rattle.rules.specs.Promises.{ReadPromise, WritePromise, StrongPromise, ReachPromise, SkeletonPromise}
