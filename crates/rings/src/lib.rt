@@ -11,7 +11,6 @@ ghost use Rattle.memory.specs.Regions.{cell};
 ghost use Rattle.memory.specs.Putting.{ArcsFit};
 ghost use Rattle.rings.specs.Rings.{ring_arc, rings_of, RingsLent, RingPut, RingsPut};
 
-use memory::wide;
 use workmap::RingsAt;
 
 // Notes each name as what comes first: the highest zone of its component is followed by it.
@@ -19,10 +18,8 @@ fn start_rings(work: &mut [u16], at: RingsAt)
     requires { RingsLent work.old at }
     ensures { work.new ≡ sets work.old at.last (span 0 at.zones) }
 {
-    let mut a = 0;
-    while a < at.zones {
+    for a in 0..at.zones {
         work[at.last + a] = a as u16;
-        a += 1;
     }
 }
 
@@ -44,10 +41,10 @@ fn put_one(
         tails.new heads.new put result }
 {
     let here = z as u16;
-    let low = at.last + wide(work[at.names + z]);
+    let low = at.last + usize::from(work[at.names + z]);
     let next = work[low];
     work[low] = here;
-    if wide(next) == z {
+    if usize::from(next) == z {
         return put;
     }
     tails[put] = here;
@@ -69,10 +66,8 @@ pub fn put_rings(
         tails.new heads.new put result }
 {
     start_rings(work, at);
-    let mut z = at.zones;
     let mut next = put;
-    while 0 < z {
-        z -= 1;
+    for z in (0..at.zones).rev() {
         next = put_one(work, at, z, tails, heads, next);
     }
     next

@@ -1,9 +1,8 @@
 -- One turn of noting the places of the components, on plain lists.
---   note_start    before the first turn nothing is noted
 --   top_low       the next name is a zone, and stands where it stood
 --   note_turn     the next name gets its place, and stands in the order a second time
 -- No name stands twice, so a place that is noted is not overwritten. Assumes nothing.
-use mathlib.Core.Path.{◌≡◌, refl, sym, ap, ◌∙◌}
+use mathlib.Core.Path.{◌≡◌, sym, ap, ◌∙◌}
 use mathlib.Core.Logic.{◌≢◌, inl, inr}
 use mathlib.Core.List.{List}
 use Prim.Native.Nat.{ℕ, ◌+◌, ◌<◌}
@@ -15,17 +14,6 @@ use Rattle.memory.specs.Regions.{cell}
 use Rattle.memory.proofs.Numbers.{same?}
 use Rattle.spots.specs.Spots.{PlacesNotable, PlacesNoted}
 
--- before the first turn nothing is noted
-pub note_start : (w : List ℕ) (at : PlacesAt) → PlacesNoted w w at 0
-note_start w at =
-    record {
-      spot = λ i h. absurd (omega arith);
-      order = λ i h. absurd (omega arith);
-      long = refl;
-      kept = λ i l h. refl;
-      high = refl;
-    }
-
 module _ (w₀ : List ℕ) (at : PlacesAt) (k : ℕ) (P : PlacesNotable w₀ at k) (w : List ℕ) (j : ℕ)
     (S : PlacesNoted w₀ w at j) (inside : j < k) where
   -- the next name
@@ -33,11 +21,11 @@ module _ (w₀ : List ℕ) (at : PlacesAt) (k : ℕ) (P : PlacesNotable w₀ at 
   top = cell w at.tops j
 
   -- it stands where it stood
-  pub top_kept : top ≡ cell w₀ at.tops j
+  top_kept : top ≡ cell w₀ at.tops j
   top_kept = S.kept (at.tops + j) (omega arith) (omega (arith, P.few, P.tops_low, P.names_low))
 
   -- and it is a zone
-  pub top_low : top < at.zones
+  top_low : top < at.zones
   top_low = omega (arith, top_kept, P.zone j inside)
 
   -- the memory with the name's place, and with the name in the order too

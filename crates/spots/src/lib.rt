@@ -4,7 +4,6 @@
 
 ghost use Rattle.spots.specs.Spots.{PlacesNotable, PlacesNoted};
 
-use memory::wide;
 use workmap::PlacesAt;
 
 // Notes the place of each name, and the name of each place.
@@ -12,15 +11,9 @@ pub fn note_places(work: &mut [u16], at: PlacesAt, places: usize)
     requires { PlacesNotable work.old at places }
     ensures { PlacesNoted work.old work.new at places }
 {
-    let mut place = 0;
-    while place < places {
-        let spots = at.spots;
-        let tops = at.tops;
-        let order = at.order;
-        let name = work[tops + place];
-        let to = spots + wide(name);
-        work[to] = place as u16;
-        work[order + place] = name;
-        place += 1;
+    for place in 0..places {
+        let name = work[at.tops + place];
+        work[at.spots + usize::from(name)] = place as u16;
+        work[at.order + place] = name;
     }
 }

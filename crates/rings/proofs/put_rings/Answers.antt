@@ -1,6 +1,5 @@
 use native.Mathlib.Omega.{arith}
-use Rattle.memory.proofs.Puts.{put_long}
-use Rattle.rings.proofs.Passing.{Passing, passing_start, passing_lent, passing_room, passing_turn, passing_end}
+use Rattle.rings.proofs.Passing.{Passing, passing_start, passing_lent, passing_room, passing_turn}
 use Rattle.rings.proofs.put_rings.Goals.{At-loop-z}
 use Rattle.rings.proofs.put_rings.Goals as goal
 
@@ -18,26 +17,15 @@ loop-z-init c =
 pub loop-z-preserved : goal.loop-z-preserved
 loop-z-preserved c =
     λ w L e.
-    passing_turn L (c.loop-z.invariant w L e) (omega (arith, c.loop-z-test.true)) c.put_one-next.new.work
+    passing_turn L (c.loop-z.invariant w L e) (omega arith) c.put_one-next.new.work
     c.put_one-next.new.tails c.put_one-next.new.heads c.put_one-next.result c.put_one-next.ensures
 
-pub returns : goal.returns
-returns c = passing_end (passed (goal.at.returns c).At-loop-z) (omega (arith, c.loop-z-test.false))
+pub put_one-next-requires-clause-rings_lent : goal.put_one-next-requires-clause-rings_lent
+put_one-next-requires-clause-rings_lent c =
+    passing_lent c.requires.rings_lent
+    (passed (goal.at.put_one-next-requires-clause-rings_lent c).At-loop-z)
 
-pub put_one-next-requires : goal.put_one-next-requires
-put_one-next-requires c =
-    record {
-      rings_lent = passing_lent c.requires.rings_lent (passed (goal.at.put_one-next-requires c).At-loop-z);
-      z_lt_zones = omega (arith, c.loop-z-test.true, (passed (goal.at.put_one-next-requires c).At-loop-z).below);
-      arcs_fit = passing_room c.requires.rings_lent (passed (goal.at.put_one-next-requires c).At-loop-z) (omega
-          (arith, c.loop-z-test.true)) c.requires.arcs_fit;
-    }
-
-pub shape_of-work : goal.shape_of-work
-shape_of-work c = (passed (goal.at.shape_of-work c).At-loop-z).long
-
-pub shape_of-tails : goal.shape_of-tails
-shape_of-tails c = (put_long (passed (goal.at.shape_of-tails c).At-loop-z).arcs).0
-
-pub shape_of-heads : goal.shape_of-heads
-shape_of-heads c = (put_long (passed (goal.at.shape_of-heads c).At-loop-z).arcs).1
+pub put_one-next-requires-clause-arcs_fit : goal.put_one-next-requires-clause-arcs_fit
+put_one-next-requires-clause-arcs_fit c =
+    passing_room c.requires.rings_lent
+    (passed (goal.at.put_one-next-requires-clause-arcs_fit c).At-loop-z) (omega arith) c.requires.arcs_fit

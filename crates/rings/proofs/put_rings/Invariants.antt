@@ -1,5 +1,5 @@
 -- `rings::put_rings` meets its contract: whatever memory the names were first noted in, the zones from z on are passed.
--- The measure is z. Assumes nothing.
+-- Assumes nothing.
 use mathlib.Core.Path.{◌≡◌}
 use mathlib.Core.List.{List}
 use Prim.Native.Nat.{ℕ}
@@ -13,6 +13,3 @@ abbrev pub invariant-loop-z : goal.invariant-loop-z
 invariant-loop-z l =
     (w : List ℕ) → RingsLent w l.at → l.initial.work ≡ sets w l.at.last (span 0 l.at.zones)
     → Passing w l.work l.at l.initial.tails l.initial.heads l.tails l.heads l.put l.z l.next
-
-abbrev pub decreases-loop-z : goal.decreases-loop-z
-decreases-loop-z l = l.z
