@@ -32,14 +32,17 @@ part_rest w at (suc n) =
     ∙ ap (λ (k : ℕ). drop 1 (part w at k)) {x = 1 + n} {y = suc n} (omega arith)
 
 module _
-    (w : List ℕ)
-    (n : Counts)
-    (p : Side)
-    (P : ListsApart w n p)
-    (w' : List ℕ)
-    (m : ℕ)
+    {w w' : List ℕ}
+    {n : Counts}
+    {p : Side}
+    {m : ℕ}
+    (L : Linkable w n p)
     (S : Stationed w w' n p m)
   where
+    -- where the lists lie
+    abbrev P : ListsApart w n p
+    P = L.placed
+
     -- the stations fit their stretch
     pub room : p.links.stations + m ≤ stations_end p
     room = omega (arith, P.room, stations_long w n p P, S.count)
@@ -164,7 +167,7 @@ module _
     sources_inside : Inside p p.pairs.lone n.sources
     sources_inside = record { low = omega (arith, P.sources_apart); high = omega (arith, P.sources_fit) }
 
-    module _ (L : Linkable w n p) (r q : ℕ) (er : r ≡ n.pairs - 1) (eq : q ≡ m - 1) where
+    module _ {r q : ℕ} (er : r ≡ n.pairs - 1) (eq : q ≡ m - 1) where
       -- all links are no more than the zones
       pub all_few : r + q + n.sources ≤ p.rows.zones
       all_few = omega (arith, links_long, L.few)
@@ -192,13 +195,13 @@ module _
           sources_inside
 
       -- the three rows together are the links
-      pub linked : (u₁ u₂ u₃ : List ℕ) →
+      pub linked : {u₁ u₂ u₃ : List ℕ} →
           LinksJoined w' u₁ p.links p.pairs.seconds (p.pairs.firsts + 1) r 0 0 →
           LinksJoined u₁ u₂ p.links p.links.stations (p.links.stations + 1) q 1 r →
           LinksJoined u₂ u₃ p.links p.lists.sinks p.pairs.lone n.sources 2 (r + q) →
           LinksPut w u₃ n p (r + q + n.sources)
       unfolding links_in links stations_in stations
-      linked u₁ u₂ u₃ A B C =
+      linked {u₁} {u₂} {u₃} A B C =
           let rs = rings (couples (part w p.pairs.firsts n.pairs) (part w p.pairs.seconds n.pairs)) in
           let cs = chains (stations_in w n p) in
           let bs = backs (part w p.lists.sinks n.sinks) (part w p.pairs.lone n.sources) in

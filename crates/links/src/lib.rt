@@ -6,7 +6,7 @@ ghost use Rattle.links.specs.Stores.{Joinable, LinksJoined};
 ghost use Rattle.links.specs.Linking.{Linkable, LinksPut};
 
 use memory::{copy, fill};
-use stations::{Counts, one_of, put_stations};
+use stations::{Counts, put_stations};
 use workmap::{LinksAt, Side};
 
 // Puts n links of one why behind the first `at` links, from the elements from place `a` on to those from place `b` on.
@@ -26,8 +26,8 @@ pub fn put_links(work: &mut [u16], n: Counts, p: Side) -> usize
     ensures { LinksPut work.old work.new n p result }
 {
     let stations = put_stations(work, n, p);
-    let rings = n.pairs - one_of(n.pairs);
-    let chain = stations - one_of(stations);
+    let rings = n.pairs.saturating_sub(1);
+    let chain = stations.saturating_sub(1);
     let at = rings + chain;
     let w = p.pairs.seconds;
     let q = p.links.stations;
