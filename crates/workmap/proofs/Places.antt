@@ -1,61 +1,13 @@
--- Laws of the map of lent work memory: it is put together from its parts, and each place is a number.
---   map_parts   parts that are as the map has them make the map
+-- Laws of the map of lent work memory: each place is a number.
 --   placed, searches_placed, .. links_placed   of a map that is `map_of n k`: the places of the rows, of the searches
 --               and of each other pass, as numbers. A proof that has one of these in scope tells places apart by
 --               arithmetic, and writes no number itself.
 -- Assumes nothing.
-use mathlib.Core.Path.{◌≡◌, refl}
+use mathlib.Core.Path.{◌≡◌}
 use Prim.Native.Nat.{ℕ, ◌+◌, ◌*◌}
 use native.Mathlib.Omega.{arith}
-use Rattle.rules.specs.Calls.{asked_work}
-use Rattle.workmap.specs.declared.RowsAt.{RowsAt}
-use Rattle.workmap.specs.declared.SearchAt.{SearchAt}
-use Rattle.workmap.specs.declared.OrderAt.{OrderAt}
-use Rattle.workmap.specs.declared.NamesAt.{NamesAt}
-use Rattle.workmap.specs.declared.KindsAt.{KindsAt}
-use Rattle.workmap.specs.declared.ListsAt.{ListsAt}
-use Rattle.workmap.specs.declared.PairsAt.{PairsAt}
-use Rattle.workmap.specs.declared.LinksAt.{LinksAt}
-use Rattle.workmap.specs.declared.RingsAt.{RingsAt}
-use Rattle.workmap.specs.declared.PlacesAt.{PlacesAt}
-use Rattle.workmap.specs.declared.TableAt.{TableAt}
 use Rattle.workmap.specs.declared.Map.{Map}
-use Rattle.workmap.specs.Map.{rows_at, turned_at, search_at, back_at, order_at, names_at, kinds_at, lists_at}
-use Rattle.workmap.specs.Map.{pairs_at, links_at, rings_at, places_at, table_at, map_of}
-
--- a map of given parts
-abbrev pub parts_map : ℕ → ℕ → ℕ → RowsAt → RowsAt → SearchAt → SearchAt → OrderAt → NamesAt → KindsAt → ListsAt
-    → PairsAt → LinksAt → RingsAt → PlacesAt → TableAt → RowsAt → Map
-parts_map n m a r t s b o e k l p i x y z q =
-    record {
-      zones = n;
-      arcs = m;
-      asked = a;
-      rows = r;
-      turned = t;
-      search = s;
-      back = b;
-      order = o;
-      names = e;
-      kinds = k;
-      lists = l;
-      pairs = p;
-      links = i;
-      rings = x;
-      places = y;
-      table = z;
-      sorting = q;
-    }
-
--- parts that are as the map has them make the map
-pub map_parts : {n m a : ℕ} {r t : RowsAt} {s b : SearchAt} {o : OrderAt} {e : NamesAt} {k : KindsAt} {l : ListsAt}
-    {p : PairsAt} {i : LinksAt} {x : RingsAt} {y : PlacesAt} {z : TableAt} {q : RowsAt}
-    → a ≡ asked_work n m → r ≡ rows_at n → t ≡ turned_at n m → s ≡ search_at n → b ≡ back_at n → o ≡ order_at n
-    → e ≡ names_at n → k ≡ kinds_at n → l ≡ lists_at n → p ≡ pairs_at n → i ≡ links_at n
-    → x ≡ rings_at n → y ≡ places_at n → z ≡ table_at n → q ≡ rows_at n
-    → parts_map n m a r t s b o e k l p i x y z q ≡ map_of n m
-map_parts ea er et es eb eo ee ek el ep ei ex ey ez eq =
-    rw (ea, er, et, es, eb, eo, ee, ek, el, ep, ei, ex, ey, ez, eq) refl
+use Rattle.workmap.specs.Map.{map_of}
 
 -- where a map has the counts, what is asked for, and the rows
 pub record Placed (m : Map) (n k : ℕ) : Type 0 where

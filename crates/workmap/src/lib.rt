@@ -146,162 +146,160 @@ pub fn asked_work(zones: usize, arcs: usize) -> usize
     16 * zones + 3 * arcs
 }
 
-// The rows, behind everything else: their starts, one more than there are zones, and the rows.
-fn rows_at(zones: usize) -> RowsAt
-    requires { zones ≤ 1024 }
-    ensures { result ≡ rows_at zones }
-{
-    RowsAt {
-        zones: zones,
-        starts: 12 * zones,
-        rows: 13 * zones + 1,
-    }
+// The two counts of a network, within the bounds of its tests. Where each part stands is a method.
+#[derive(Clone, Copy)]
+struct Sizes {
+    zones: usize,
+    arcs: usize,
+    ghost zones_bound: { zones ≤ 1024 },
+    ghost arcs_bound: { arcs ≤ 4096 },
 }
 
-// The turned rows, behind the rows.
-fn turned_at(zones: usize, arcs: usize) -> RowsAt
-    requires zones_bound { zones ≤ 1024 }
-    requires arcs_bound { arcs ≤ 4096 }
-    ensures { result ≡ turned_at zones arcs }
-{
-    RowsAt {
-        zones: zones,
-        starts: 13 * zones + 1 + arcs,
-        rows: 14 * zones + 2 + arcs,
+impl Sizes {
+    // The rows, behind everything else: their starts, one more than there are zones, and the rows.
+    fn rows(self) -> RowsAt
+        ensures { result ≡ rows_at self.zones }
+    {
+        RowsAt {
+            zones: self.zones,
+            starts: 12 * self.zones,
+            rows: 13 * self.zones + 1,
+        }
     }
-}
 
-// A search, at the front.
-fn search_at(zones: usize) -> SearchAt
-    ensures { result ≡ search_at zones }
-{
-    SearchAt {
-        marks: 0,
-        queue: zones,
+    // The turned rows, behind the rows.
+    fn turned(self) -> RowsAt
+        ensures { result ≡ turned_at self.zones self.arcs }
+    {
+        RowsAt {
+            zones: self.zones,
+            starts: 13 * self.zones + 1 + self.arcs,
+            rows: 14 * self.zones + 2 + self.arcs,
+        }
     }
-}
 
-// A search against the arcs, behind the search.
-fn back_at(zones: usize) -> SearchAt
-    requires { zones ≤ 1024 }
-    ensures { result ≡ back_at zones }
-{
-    SearchAt {
-        marks: 2 * zones,
-        queue: 3 * zones,
+    // A search, at the front.
+    fn search(self) -> SearchAt
+        ensures { result ≡ search_at self.zones }
+    {
+        SearchAt {
+            marks: 0,
+            queue: self.zones,
+        }
     }
-}
 
-// The finishing order, right before the rows.
-fn order_at(zones: usize) -> OrderAt
-    requires { zones ≤ 1024 }
-    ensures { result ≡ order_at zones }
-{
-    OrderAt {
-        seen: 9 * zones,
-        next: 10 * zones,
-        order: 11 * zones,
+    // A search against the arcs, behind the search.
+    fn back(self) -> SearchAt
+        ensures { result ≡ back_at self.zones }
+    {
+        SearchAt {
+            marks: 2 * self.zones,
+            queue: 3 * self.zones,
+        }
     }
-}
 
-// The components, before the finishing order.
-fn names_at(zones: usize) -> NamesAt
-    requires { zones ≤ 1024 }
-    ensures { result ≡ names_at zones }
-{
-    NamesAt {
-        tops: 4 * zones,
-        names: 5 * zones,
-        low: 6 * zones,
-        roots: 7 * zones,
-        queue: 8 * zones,
+    // The finishing order, right before the rows.
+    fn order(self) -> OrderAt
+        ensures { result ≡ order_at self.zones }
+    {
+        OrderAt {
+            seen: 9 * self.zones,
+            next: 10 * self.zones,
+            order: 11 * self.zones,
+        }
     }
-}
 
-// The kinds, before the components; the names are where the components have them.
-fn kinds_at(zones: usize) -> KindsAt
-    requires { zones ≤ 1024 }
-    ensures { result ≡ kinds_at zones }
-{
-    KindsAt {
-        zones: zones,
-        names: 5 * zones,
-        entered: 2 * zones,
-        exited: 3 * zones,
+    // The components, before the finishing order.
+    fn names(self) -> NamesAt
+        ensures { result ≡ names_at self.zones }
+    {
+        NamesAt {
+            tops: 4 * self.zones,
+            names: 5 * self.zones,
+            low: 6 * self.zones,
+            roots: 7 * self.zones,
+            queue: 8 * self.zones,
+        }
     }
-}
 
-// The names of each kind, where the components have what is no longer used.
-fn lists_at(zones: usize) -> ListsAt
-    requires { zones ≤ 1024 }
-    ensures { result ≡ lists_at zones }
-{
-    ListsAt {
-        sources: 4 * zones,
-        sinks: 6 * zones,
-        alone: 7 * zones,
+    // The kinds, before the components; the names are where the components have them.
+    fn kinds(self) -> KindsAt
+        ensures { result ≡ kinds_at self.zones }
+    {
+        KindsAt {
+            zones: self.zones,
+            names: 5 * self.zones,
+            entered: 2 * self.zones,
+            exited: 3 * self.zones,
+        }
     }
-}
 
-// The pairs, behind the names of each kind.
-fn pairs_at(zones: usize) -> PairsAt
-    requires { zones ≤ 1024 }
-    ensures { result ≡ pairs_at zones }
-{
-    PairsAt {
-        firsts: 8 * zones,
-        seconds: 9 * zones,
-        lone: 10 * zones,
+    // The names of each kind, where the components have what is no longer used.
+    fn lists(self) -> ListsAt
+        ensures { result ≡ lists_at self.zones }
+    {
+        ListsAt {
+            sources: 4 * self.zones,
+            sinks: 6 * self.zones,
+            alone: 7 * self.zones,
+        }
     }
-}
 
-// The links, where the search was, and behind the pairs.
-fn links_at(zones: usize) -> LinksAt
-    requires { zones ≤ 1024 }
-    ensures { result ≡ links_at zones }
-{
-    LinksAt {
-        stations: 2 * zones,
-        from: 0,
-        to: zones,
-        why: 11 * zones,
+    // The pairs, behind the names of each kind.
+    fn pairs(self) -> PairsAt
+        ensures { result ≡ pairs_at self.zones }
+    {
+        PairsAt {
+            firsts: 8 * self.zones,
+            seconds: 9 * self.zones,
+            lone: 10 * self.zones,
+        }
     }
-}
 
-// The rings, at the front; the names are where the components have them.
-fn rings_at(zones: usize) -> RingsAt
-    requires { zones ≤ 1024 }
-    ensures { result ≡ rings_at zones }
-{
-    RingsAt {
-        zones: zones,
-        last: 0,
-        names: 5 * zones,
+    // The links, where the search was, and behind the pairs.
+    fn links(self) -> LinksAt
+        ensures { result ≡ links_at self.zones }
+    {
+        LinksAt {
+            stations: 2 * self.zones,
+            from: 0,
+            to: self.zones,
+            why: 11 * self.zones,
+        }
     }
-}
 
-// The places of the components, behind the rings; the names are where the components have them.
-fn places_at(zones: usize) -> PlacesAt
-    requires { zones ≤ 1024 }
-    ensures { result ≡ places_at zones }
-{
-    PlacesAt {
-        zones: zones,
-        spots: 2 * zones,
-        tops: 4 * zones,
-        names: 5 * zones,
-        order: 8 * zones,
+    // The rings, at the front; the names are where the components have them.
+    fn rings(self) -> RingsAt
+        ensures { result ≡ rings_at self.zones }
+    {
+        RingsAt {
+            zones: self.zones,
+            last: 0,
+            names: 5 * self.zones,
+        }
     }
-}
 
-// The network of the components: the names right behind the table, and the rows where those of the zones were.
-fn table_at(zones: usize) -> TableAt
-    requires { zones ≤ 1024 }
-    ensures { result ≡ table_at zones }
-{
-    TableAt {
-        tops: 8 * zones,
-        rows: rows_at(zones),
+    // The places of the components, behind the rings; the names are where the components have them.
+    fn places(self) -> PlacesAt
+        ensures { result ≡ places_at self.zones }
+    {
+        PlacesAt {
+            zones: self.zones,
+            spots: 2 * self.zones,
+            tops: 4 * self.zones,
+            names: 5 * self.zones,
+            order: 8 * self.zones,
+        }
+    }
+
+    // The network of the components: the names right behind the table, and the rows where those of the zones were.
+    fn table(self) -> TableAt
+        ensures { result ≡ table_at self.zones }
+    {
+        TableAt {
+            tops: 8 * self.zones,
+            rows: self.rows(),
+        }
     }
 }
 
@@ -311,23 +309,24 @@ pub fn map_of(zones: usize, arcs: usize) -> Map
     requires arcs_bound { arcs ≤ 4096 }
     ensures { result ≡ map_of zones arcs }
 {
+    let sizes = Sizes { zones, arcs };
     Map {
-        zones: zones,
-        arcs: arcs,
+        zones,
+        arcs,
         asked: asked_work(zones, arcs),
-        rows: rows_at(zones),
-        turned: turned_at(zones, arcs),
-        search: search_at(zones),
-        back: back_at(zones),
-        order: order_at(zones),
-        names: names_at(zones),
-        kinds: kinds_at(zones),
-        lists: lists_at(zones),
-        pairs: pairs_at(zones),
-        links: links_at(zones),
-        rings: rings_at(zones),
-        places: places_at(zones),
-        table: table_at(zones),
-        sorting: rows_at(zones),
+        rows: sizes.rows(),
+        turned: sizes.turned(),
+        search: sizes.search(),
+        back: sizes.back(),
+        order: sizes.order(),
+        names: sizes.names(),
+        kinds: sizes.kinds(),
+        lists: sizes.lists(),
+        pairs: sizes.pairs(),
+        links: sizes.links(),
+        rings: sizes.rings(),
+        places: sizes.places(),
+        table: sizes.table(),
+        sorting: sizes.rows(),
     }
 }
