@@ -69,11 +69,11 @@ column_kept u f g zones at to rs ls ms apart few more h =
     h
 
 -- two copies and a fill put n links of one why
-pub joined : (w w₁ w₂ w₃ : List ℕ) (p : LinksAt) (a b n reason at : ℕ) → Joinable w p a b n at →
+pub joined : {w w₁ w₂ w₃ : List ℕ} {p : LinksAt} {a b n reason at : ℕ} → Joinable w p a b n at →
     Copied w w₁ a n (p.from + at) → Copied w₁ w₂ b n (p.to + at) →
     w₃ ≡ sets w₂ (p.why + at) (replicate n reason) →
     LinksJoined w w₃ p a b n reason at
-joined w w₁ w₂ w₃ p a b n reason at J A B C =
+joined {w} {w₁} {p = p} {a} {b} {n} {reason} {at} J A B C =
     let long : length (part w a n) ≡ n = part_long w a n (omega (arith, J.a_fits)) in
     let kept : part w₁ b n ≡ part w b n =
     ap (λ (l : List ℕ). part l b n) A.is
