@@ -7,7 +7,8 @@
 --   kinds_right      the kinds of refusal have the numbers of the documents
 --   row_numbers r    the row as the numbers of a constant array, as the crate `cases` holds it and runs it
 -- An arc is one number, 0x23 for the arc from 2 to 3; a link is one number, 0x150 for the chain link from 5 to 0.
-use Rattle.std.specs.Prelude.{ℕ, zero, suc, ◌+◌, ◌-◌, ◌*◌, ◌/◌, ◌%◌, ◌≡◌, refl, List, [], ◌∷◌, ◌++◌, map, Bool, true, false, ◌&&◌, length, get_or, replicate, eqb}
+use Rattle.std.specs.Prelude.{ℕ, zero, suc, ◌+◌, ◌-◌, ◌*◌, ◌/◌, ◌%◌, ◌≡◌, refl, List, [], ◌∷◌, ◌++◌, map, Bool, true}
+use Rattle.std.specs.Prelude.{false, ◌&&◌, length, get_or, replicate, eqb}
 use Rattle.rules.specs.declared.TroubleKind.TheVariants.{
   Short,
   Long,

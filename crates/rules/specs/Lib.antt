@@ -9,7 +9,7 @@
 --   A × B, A ⊎ B, ⊥, Unit        both; one or the other; what is never so; what is always so
 --   x ≡ y, In x xs               x and y are the same; x is an element of the list xs
 --   {x : A}                      an argument that is left out;   module _ (x : A)   an argument of all below
---   x ∷ xs, [], xs ++ ys         lists;   a ⟶ b   the arc from a to b;   x', x'   another x
+--   x ∷ xs, [], xs ++ ys         lists;   a ⟶ b   the arc from a to b;   x'   another x
 pub mod Lists
 pub mod Answers
 pub mod Network

@@ -250,7 +250,8 @@ module _ (s : List ℕ) where
   stands_arcs n at {end} [] k h f = ap (got []) (let z : at ≡ end = omega arith in z)
   stands_arcs n at (e ∷ es) k h f =
       let d = stands_arc n at e k (h e (In.head refl)) (stands_left s (arc_bytes e) (arcs_bytes es) f) in
-      let r = stands_arcs n (at + length (arc_bytes e)) es k (λ x i. h x (In.tail i)) (stands_right s (arc_bytes e) (arcs_bytes es) f) in
+      let rest = stands_right s (arc_bytes e) (arcs_bytes es) f in
+      let r = stands_arcs n (at + length (arc_bytes e)) es k (λ x i. h x (In.tail i)) rest in
       rw (d, r)
 
   -- where the bytes of all arcs stand up to the end, the body is read

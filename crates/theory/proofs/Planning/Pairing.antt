@@ -27,7 +27,9 @@ use lib.ListN.{length, length-append, length-map}
 use Rattle.rules.specs.Plan.{Couple, Ordering, Picked, pick, with_lone, with_pair, pairing}
 use Rattle.theory.proofs.Ground.Bools.{true_not_false}
 use Rattle.theory.proofs.Ground.Counting.{Distinct}
-use Rattle.theory.proofs.Ground.Shuffled.{Taken, here, there, Shuffled, none as no_more, next, taken_middle, taken_cases, shuffled_refl, shuffled_in, in_shuffled, shuffled_length, distinct_shuffled}
+use Rattle.theory.proofs.Ground.Shuffled.{Taken, here, there, Shuffled, none as no_more, next, taken_middle}
+use Rattle.theory.proofs.Ground.Shuffled.{taken_cases, shuffled_refl, shuffled_in, in_shuffled, shuffled_length}
+use Rattle.theory.proofs.Ground.Shuffled.{distinct_shuffled}
 use Rattle.theory.proofs.Planning.Augment.{Properties, paired_sources, paired_sinks, sources_of, sinks_of}
 
 -- what a pick says by its answer: no sink passes, or one that passes is taken out

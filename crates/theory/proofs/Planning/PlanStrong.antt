@@ -18,7 +18,8 @@ use borrow.Author.Tests.{leb-true, leb-false}
 use lib.ListN.{length, drop}
 use Rattle.rules.specs.Network.{◌⟶◌, Network, Proper, Reach, same, step, Strong, reaches, strong}
 use Rattle.rules.specs.Components.{sources, sinks, alone}
-use Rattle.rules.specs.Plan.{Link, middle, turned, turned_link, is_upright, upright, ordering, upright_plan, with_links, plan}
+use Rattle.rules.specs.Plan.{Link, middle, turned, turned_link, is_upright, upright, ordering, upright_plan, with_links}
+use Rattle.rules.specs.Plan.{plan}
 use Rattle.theory.proofs.Ground.Bools.{bool_cases}
 use Rattle.theory.proofs.Ground.Lists.{in_map}
 use Rattle.theory.proofs.Reaching.Reach.{reach_arc, reach_refl, reach_trans, reaches_sound, reaches_complete}
