@@ -1,4 +1,4 @@
--- Laws of bytes put into a buffer, of decimal digits, and of words with numbers.
+-- Laws of texts put on a page, of decimal digits, and of words with numbers.
 pub mod Puts
 pub mod Decimal
 pub mod Lengths

@@ -1,62 +1,85 @@
-// Bytes put into a lent buffer: bytes, numbers, and words with numbers after them. Each function puts one text from a
-// place on, and answers with the place where it stops; every other byte of the buffer stays as it came.
+// A text that is written into a lent buffer of bytes, front to back: bytes, numbers, and words with numbers after them.
+// Each method puts one text after what the buffer has; every other byte of it stays as it came.
 #![tactic(auto)]
 
-ghost use Rattle.std.specs.Prelude.{◌<◌};
+ghost use Rattle.std.specs.Prelude.{◌≡◌, ◌<◌};
 ghost use Rattle.rules.specs.Text.{decimal};
-ghost use Rattle.buffer.specs.Put.{TextRoom, Written};
+ghost use Rattle.buffer.specs.Put.{HasRoom, Appended};
 ghost use Rattle.buffer.specs.Words.{labelled, two};
 
-// Puts the bytes s into out from place `at` on, and answers with the place after them.
-pub fn put_bytes(out: &mut [u8], at: usize, s: &[u8]) -> usize
-    requires { TextRoom out.old at s.now }
-    ensures { Written out.old at s.now result out.new }
-{
-    let mut i = 0;
-    while i < s.len() {
-        out[at + i] = s[i];
-        i += 1;
+// A lent buffer, and how many bytes of it are text.
+#[derive(Drop)]
+pub struct Page<'a> {
+    bytes: &'a mut [u8],
+    len: usize,
+}
+
+impl<'a> Page<'a> {
+    // A page with no text.
+    pub fn new(bytes: &'a mut [u8]) -> Page<'a>
+        ensures same_reference { result.bytes.ghost_name ≡ bytes.entry.ghost_name }
+        ensures buffer { result.bytes.now ≡ bytes.old }
+        ensures empty { result.len ≡ 0 }
+    {
+        Page { bytes, len: 0 }
     }
-    at + s.len()
-}
 
-// Puts one decimal digit.
-fn put_digit(out: &mut [u8], at: usize, digit: usize) -> usize
-    requires digit_bound { digit < 10 }
-    requires text_room { TextRoom out.old at (decimal digit) }
-    ensures { Written out.old at (decimal digit) result out.new }
-{
-    out[at] = 48 + digit as u8;
-    at + 1
-}
-
-// Puts the decimal digits of a number: those of its tenth, and then its last digit.
-pub fn put_number(out: &mut [u8], at: usize, n: usize) -> usize
-    requires { TextRoom out.old at (decimal n) }
-    ensures { Written out.old at (decimal n) result out.new }
-{
-    if n < 10 {
-        return put_digit(out, at, n);
+    // How many bytes the text has.
+    pub fn written(&self) -> usize
+        ensures { result ≡ self.now.len }
+    {
+        self.len
     }
-    let end = put_number(out, at, n / 10);
-    put_digit(out, end, n % 10)
-}
 
-// Puts a word and then a number.
-pub fn put_labelled(out: &mut [u8], at: usize, label: &[u8], n: usize) -> usize
-    requires { TextRoom out.old at (labelled label.now n) }
-    ensures { Written out.old at (labelled label.now n) result out.new }
-{
-    let end = put_bytes(out, at, label);
-    put_number(out, end, n)
-}
+    // Puts bytes after the text.
+    pub fn put_bytes(&mut self, s: &[u8])
+        requires { HasRoom self.old s.now }
+        ensures { Appended self.old s.now self.new }
+    {
+        let end = self.len + s.len();
+        self.bytes[self.len..end].copy_from_slice(s);
+        self.len = end;
+    }
 
-// Puts two words, each with a number after it.
-pub fn put_two(out: &mut [u8], at: usize, first: &[u8], m: usize, second: &[u8], n: usize) -> usize
-    requires { TextRoom out.old at (two first.now m second.now n) }
-    ensures { Written out.old at (two first.now m second.now n)
-        result out.new }
-{
-    let end = put_labelled(out, at, first, m);
-    put_labelled(out, end, second, n)
+    // Puts one decimal digit.
+    fn put_digit(&mut self, digit: usize)
+        requires digit_bound { digit < 10 }
+        requires room { HasRoom self.old (decimal digit) }
+        ensures { Appended self.old (decimal digit) self.new }
+    {
+        self.put_bytes(&[48 + digit as u8])
+    }
+
+    // Puts the decimal digits of a number: those of its tenth, and then its last digit.
+    // Kept (4): by its contract `write!` may fail at any text, and what `respond` prints is promised whole.
+    pub fn put_number(&mut self, n: usize)
+        requires { HasRoom self.old (decimal n) }
+        ensures { Appended self.old (decimal n) self.new }
+    {
+        if n < 10 {
+            return self.put_digit(n);
+        }
+        self.put_number(n / 10);
+        self.put_digit(n % 10)
+    }
+
+    // Puts a word and then a number.
+    #[tactic(auto, unfolding(crate::specs::Words::labelled))]
+    pub fn put_labelled(&mut self, label: &[u8], n: usize)
+        requires { HasRoom self.old (labelled label.now n) }
+        ensures { Appended self.old (labelled label.now n) self.new }
+    {
+        self.put_bytes(label);
+        self.put_number(n)
+    }
+
+    // Puts two words, each with a number after it.
+    #[tactic(auto, unfolding(crate::specs::Words::two))]
+    pub fn put_two(&mut self, first: &[u8], m: usize, second: &[u8], n: usize)
+        requires { HasRoom self.old (two first.now m second.now n) }
+        ensures { Appended self.old (two first.now m second.now n) self.new }
+    {
+        self.put_labelled(first, m);
+        self.put_labelled(second, n)
+    }
 }
