@@ -1,15 +1,13 @@
 -- The side on which the plan rule runs, in the rule's words.
 --   Roomy d           the places of the side d lie apart from each other, in the order that the rule asks
---   AsGiven m d      on the side d the network stands as given, and links put there stand in the map's columns
---   TurnedRound m d  on it the network stands turned round, and the links stand in the map's columns turned back
 --   RuleSide m s t d for a network with s sources and t sinks: on d stands the network on which the rule runs, and
 --                     its links, put there, are the plan
 --   Tallied s t q p r r counts what the links are made of: an ordering with p pairs of s sources and t sinks, and q
 --                     components alone
-use Rattle.std.specs.Prelude.{◌≡◌, ◌⊎◌, false, List, map, ℕ, ◌+◌, ◌≤◌, length}
+use Rattle.std.specs.Prelude.{◌≡◌, ◌⊎◌, false, List, ℕ, ◌+◌, ◌≤◌, length}
 use Rattle.rules.specs.Network.{Network, strong}
 use Rattle.rules.specs.Components.{sources, sinks}
-use Rattle.rules.specs.Plan.{Ordering, Link, turned, turned_link, upright, upright_plan, plan}
+use Rattle.rules.specs.Plan.{Ordering, upright, upright_plan, plan}
 use Rattle.stations.specs.declared.Counts.{Counts}
 use Rattle.stations.specs.Stations.{stations_end}
 use Rattle.workmap.specs.declared.Map.{Map}
@@ -36,23 +34,6 @@ pub record Roomy (d : Side) : Type 0 where
   pub columns_apart :
       (d.links.from + d.rows.zones ≤ d.links.to) ⊎ (d.links.to + d.rows.zones ≤ d.links.from)
   pub stations_before : stations_end d ≤ d.lists.sinks
-
--- the network stands on the side as given, and links that are put there stand in the columns of the map
-pub record AsGiven (m : Map) (d : Side) : Type 0 where
-  pub roomy : Roomy d
-  pub below : d.links.why + d.rows.zones ≤ m.rows.starts
-  pub stands : (w : List ℕ) (N : Network) → BothWays w m N → SideStands w d.rows d.lists N
-  pub zones : d.rows.zones ≡ m.rows.zones
-  pub columns : (w : List ℕ) (ls : List Link) → Columns w d.links ls → Columns w m.links ls
-
--- it stands there turned round, and links that are put there stand in the columns of the map turned back
-pub record TurnedRound (m : Map) (d : Side) : Type 0 where
-  pub roomy : Roomy d
-  pub below : d.links.why + d.rows.zones ≤ m.rows.starts
-  pub stands : (w : List ℕ) (N : Network) → BothWays w m N → SideStands w d.rows d.lists (turned N)
-  pub zones : d.rows.zones ≡ m.rows.zones
-  pub columns :
-      (w : List ℕ) (ls : List Link) → Columns w d.links ls → Columns w m.links (map turned_link ls)
 
 -- on the side stands the network on which the rule runs, and its links, put there, are the plan
 pub record RuleSide (m : Map) (s t : ℕ) (d : Side) : Type 0 where
