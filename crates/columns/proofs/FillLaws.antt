@@ -1,20 +1,17 @@
 -- Laws of filling a lent list of records from three columns of numbers.
---   one_not_zero      a number that is 1 is not 0
 --   filled_length     filling keeps the list's length
 --   columns_record    the record of index i of three columns is the record of the link of index i
 --   filled_is         filling from the columns of links gives their records, and past them what was there
 -- The first k records of a filled list are the first k of the links, by induction on k.
 -- Assumes nothing.
 use mathlib.Core.Path.{◌≡◌, refl, sym, ap, ◌∙◌}
-use mathlib.Core.Bool.{false}
 use mathlib.Core.List.{List, [], ◌∷◌, ◌++◌, map}
 use Prim.Native.Nat.{ℕ, zero, suc, ◌≤◌, ◌<◌}
 use native.Mathlib.Nat.{not-suc-le-zero, le_of_suc-le-suc}
 use native.Mathlib.Omega.{arith}
-use lib.Dec.{eqb}
 use lib.ListN.{length, get_or, set, take, drop, length-set, length-map}
 use lib.Seq.{take-length}
-use Rattle.rules.specs.Plan.{ring, chain, back, why_number, why_of, record_of}
+use Rattle.rules.specs.Plan.{ring, chain, back, why_number, why_of, why_numbered, record_of}
 use Rattle.rules.specs.Plan as Plan
 use Rattle.rules.specs.Lists.{over}
 use Rattle.workmap.specs.declared.LinksAt.{LinksAt}
@@ -22,11 +19,7 @@ use Rattle.memory.specs.Regions.{Holds}
 use Rattle.memory.proofs.Regions.{holds_at}
 use Rattle.rules.specs.declared.Why.{Why}
 use Rattle.rules.specs.declared.Link.{Link}
-use Rattle.columns.specs.Columns.{why_numbered, link_at, filled}
-
--- a number that is 1 is not 0
-pub one_not_zero : (k : ℕ) → k ≡ 1 → eqb k 0 ≡ false
-one_not_zero k e = ap (λ (a : ℕ). eqb a 0) e
+use Rattle.columns.specs.Columns.{link_at, filled}
 
 -- filling keeps the list's length
 pub filled_length : (w : List ℕ) (at : LinksAt) (xs : List Link) (k : ℕ) → length (filled w at xs k) ≡ length xs

@@ -1,24 +1,12 @@
 -- Records of links that stand in lent work memory as three columns of numbers.
---   why_numbered k       the why of a number
 --   LinkStands w at i        the memory is long enough for the record of index i
 --   link_at w at i       the record of index i, from the columns of starts, ends and whys
 --   Readable w at k      the memory is long enough for the first k records
 --   filled w at ls k     a lent list of records after the first k were stored
-use Rattle.std.specs.Prelude.{ℕ, zero, suc, ◌+◌, ◌<◌, List, Bool, true, false, length, get_or, set, eqb}
+use Rattle.std.specs.Prelude.{ℕ, zero, suc, ◌+◌, ◌<◌, List, length, get_or, set}
 use Rattle.workmap.specs.declared.LinksAt.{LinksAt}
-use Rattle.rules.specs.declared.Why.{Why}
-use Rattle.rules.specs.declared.Why.TheVariants.{Ring, Chain, Back}
+use Rattle.rules.specs.Plan.{why_numbered}
 use Rattle.rules.specs.declared.Link.{Link}
-
--- a why, by whether its number is 0, and whether it is 1
-abbrev pub why_told : Bool → Bool → Why
-why_told true one = Ring
-why_told false true = Chain
-why_told false false = Back
-
--- the why of a number
-abbrev pub why_numbered : ℕ → Why
-why_numbered k = why_told (eqb k 0) (eqb k 1)
 
 -- the memory is long enough for the record of index i
 pub record LinkStands (w : List ℕ) (at : LinksAt) (i : ℕ) : Type 0 where
