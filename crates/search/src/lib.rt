@@ -6,43 +6,32 @@
 //     top, tail     how many zones the queue holds, before the search and now
 #![tactic(auto)]
 
+ghost use Rattle.std.specs.Prelude.{◌+◌, ◌<◌, length, get_or};
 ghost use Rattle.search.specs.Marking.{Visitable, Visited, Underway, Drained};
 ghost use Rattle.search.specs.Marking.{Spreadable, Spread, Searchable, Searched};
 
-use arranged::{Found, step};
-use memory::wide;
 use workmap::{RowsAt, SearchAt};
 
-// Marks the unmarked zones of the row from `from` up to `to` and puts them on the queue. Answers the queue's new end.
-fn visit(
-    work: &mut [u16],
-    rows: RowsAt,
-    at: SearchAt,
-    x: u16,
-    from: usize,
-    to: usize,
-    tail: usize,
-) -> usize
-    requires { Visitable work.old rows at x from to tail }
-    ensures { Visited work.old work.new rows at x from to tail result }
+// Marks the unmarked zones of the row of z and puts them on the queue. Answers the queue's new end.
+fn visit(work: &mut [u16], rows: RowsAt, at: SearchAt, x: u16, z: usize, tail: usize) -> usize
+    requires in_rows { rows.starts + z + 1 < length work.old }
+    requires visitable { let first = rows.rows + get_or work.old (rows.starts + z) 0 in
+        let behind = rows.rows + get_or work.old (rows.starts + z + 1) 0 in
+        Visitable work.old rows at x first behind tail }
+    ensures { let first = rows.rows + get_or work.old (rows.starts + z) 0 in
+        let behind = rows.rows + get_or work.old (rows.starts + z + 1) 0 in
+        Visited work.old work.new rows at x first behind tail result }
 {
-    let mut a = from;
+    let first = rows.rows + usize::from(work[rows.starts + z]);
+    let behind = rows.rows + usize::from(work[rows.starts + z + 1]);
     let mut end = tail;
-    while a < to {
-        match step(work, a, to, at.marks, rows.zones) {
-            Found::Nothing => {
-                return end;
-            }
-            Found::At(i) => {
-                let marks = at.marks;
-                let queue = at.queue;
-                let h = work[a + i];
-                let m = marks + wide(h);
-                work[m] = x;
-                work[queue + end] = h;
-                end += 1;
-                a = a + i + 1;
-            }
+    for i in first..behind {
+        let h = work[i];
+        let m = at.marks + usize::from(h);
+        if work[m] == 0 {
+            work[m] = x;
+            work[at.queue + end] = h;
+            end += 1;
         }
     }
     end
@@ -56,14 +45,10 @@ fn drain(work: &mut [u16], rows: RowsAt, at: SearchAt, x: u16, top: usize) -> us
 {
     let mut head = top;
     let mut tail = top + 1;
+    // Kept (3): the queue grows while it is gone through, so no range is known beforehand.
     while head < tail {
-        let starts = rows.starts;
-        let heads = rows.rows;
-        let queue = at.queue;
-        let z = wide(work[queue + head]);
-        let a = heads + wide(work[starts + z]);
-        let b = heads + wide(work[starts + z + 1]);
-        tail = visit(work, rows, at, x, a, b, tail);
+        let z = usize::from(work[at.queue + head]);
+        tail = visit(work, rows, at, x, z, tail);
         head += 1;
     }
     tail

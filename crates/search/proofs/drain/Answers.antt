@@ -36,83 +36,27 @@ overflow_add-tail c =
 pub loop-head-init : goal.loop-head-init
 loop-head-init c = (omega arith, (refl, λ v from G. G))
 
-pub overflow_add-queue : goal.overflow_add-queue
-overflow_add-queue c =
+pub overflow_add-at : goal.overflow_add-at
+overflow_add-at c =
     let U = c.requires in
     omega (arith, spot (c.loop-head.invariant.1.1 U.began U.from U.course) c.loop-head-test.true)
 
-pub offset_bounds-work-queue : goal.offset_bounds-work-queue
-offset_bounds-work-queue c =
+pub offset_bounds-work-at : goal.offset_bounds-work-at
+offset_bounds-work-at c =
     let U = c.requires in
     omega (arith, spot (c.loop-head.invariant.1.1 U.began U.from U.course) c.loop-head-test.true)
 
-pub bounds-work-queue : goal.bounds-work-queue
-bounds-work-queue c =
+pub bounds-work-at : goal.bounds-work-at
+bounds-work-at c =
     let U = c.requires in
     spot (c.loop-head.invariant.1.1 U.began U.from U.course) c.loop-head-test.true
-
-pub overflow_add-starts : goal.overflow_add-starts
-overflow_add-starts c =
-    let U = c.requires in
-    let G = c.loop-head.invariant.1.1 U.began U.from U.course in
-    omega (arith, inside G c.loop-head-test.true c.wide-z.result c.wide-z.ensures)
-
-pub offset_bounds-work-starts : goal.offset_bounds-work-starts
-offset_bounds-work-starts c =
-    let U = c.requires in
-    let G = c.loop-head.invariant.1.1 U.began U.from U.course in
-    omega (arith, inside G c.loop-head-test.true c.wide-z.result c.wide-z.ensures)
-
-pub bounds-work-starts : goal.bounds-work-starts
-bounds-work-starts c =
-    let U = c.requires in
-    let G = c.loop-head.invariant.1.1 U.began U.from U.course in
-    omega (arith, inside G c.loop-head-test.true c.wide-z.result c.wide-z.ensures)
-
-pub overflow_add-a : goal.overflow_add-a
-overflow_add-a c =
-    let U = c.requires in
-    let G = c.loop-head.invariant.1.1 U.began U.from U.course in
-    let A = ready G c.loop-head-test.true c.wide-z.result c.wide-z.ensures in
-    omega (arith, A.order, A.fits, c.wide.ensures)
-
-pub overflow_add-starts-in-loop-head : goal.overflow_add-starts-in-loop-head
-overflow_add-starts-in-loop-head c =
-    let U = c.requires in
-    let G = c.loop-head.invariant.1.1 U.began U.from U.course in
-    omega (arith, inside G c.loop-head-test.true c.wide-z.result c.wide-z.ensures)
-
-pub overflow_add-starts-in-loop-head-2 : goal.overflow_add-starts-in-loop-head-2
-overflow_add-starts-in-loop-head-2 c =
-    let U = c.requires in
-    let G = c.loop-head.invariant.1.1 U.began U.from U.course in
-    omega (arith, inside G c.loop-head-test.true c.wide-z.result c.wide-z.ensures)
-
-pub offset_bounds-work-starts-in-loop-head : goal.offset_bounds-work-starts-in-loop-head
-offset_bounds-work-starts-in-loop-head c =
-    let U = c.requires in
-    let G = c.loop-head.invariant.1.1 U.began U.from U.course in
-    omega (arith, inside G c.loop-head-test.true c.wide-z.result c.wide-z.ensures)
-
-pub bounds-work-starts-in-loop-head : goal.bounds-work-starts-in-loop-head
-bounds-work-starts-in-loop-head c =
-    let U = c.requires in
-    let G = c.loop-head.invariant.1.1 U.began U.from U.course in
-    omega (arith, inside G c.loop-head-test.true c.wide-z.result c.wide-z.ensures)
-
-pub overflow_add-b : goal.overflow_add-b
-overflow_add-b c =
-    let U = c.requires in
-    let G = c.loop-head.invariant.1.1 U.began U.from U.course in
-    let A = ready G c.loop-head-test.true c.wide-z.result c.wide-z.ensures in
-    omega (arith, A.fits, c.wide-in-loop-head.ensures)
 
 pub visit-tail-requires : goal.visit-tail-requires
 visit-tail-requires c =
     let U = c.requires in
     let G = c.loop-head.invariant.1.1 U.began U.from U.course in
-    rw (c.wide.ensures, c.wide-in-loop-head.ensures)
-    (ready G c.loop-head-test.true c.wide-z.result c.wide-z.ensures)
+    let more = c.loop-head-test.true in
+    record { in_rows = inside G more _ c.from-z.ensures; visitable = ready G more _ c.from-z.ensures }
 
 pub overflow_add-head : goal.overflow_add-head
 overflow_add-head c =
@@ -130,13 +74,11 @@ pub loop-head-preserved : goal.loop-head-preserved
 loop-head-preserved c =
     let l = c.loop-head in
     let more = c.loop-head-test.true in
-    let first = c.wide.ensures in
-    let second = c.wide-in-loop-head.ensures in
-    let seen = rw (first, second) at c.visit-tail.ensures in (
+    let seen = c.visit-tail.ensures in (
       omega (arith, l.invariant.0, seen.grown),
       (
         seen.kept.long ∙ l.invariant.1.0,
-        λ v from G. spreading_next (l.invariant.1.1 v from G) more c.wide-z.ensures refl refl seen,
+        λ v from G. spreading_next (l.invariant.1.1 v from G) more c.from-z.ensures refl refl seen,
       ),
     )
 
