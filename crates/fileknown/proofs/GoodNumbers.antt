@@ -3,6 +3,7 @@
 --   good_one       a first byte below 128 is all of it
 --   good_more      after another first byte the second is inside too
 --   good_two       and the two bytes are all of it
+--   good_cases     these four, for the proof of `known`
 -- By the groups that stand there: three of them are worth 16,384 or more. Assumes nothing.
 use Prim.Native.Nat.{ℕ, ◌+◌, ◌-◌, ◌*◌, ◌≤◌, ◌<◌}
 use native.Mathlib.Omega.{arith}
@@ -50,3 +51,6 @@ module _ {s : List ℕ} {at : ℕ} (p : GoodNumber s at) where
         | two a b f g z h n e ↦ p.good ∙ ap₂ got (omega arith) (omega arith)
         | three a b c f g k z h n e ↦ absurd (omega (arith, p.short))
       ]
+
+-- A known number, by its first byte.
+pub ruleset good_cases = (good_inside, good_one, good_more, good_two)
