@@ -2,6 +2,7 @@
 --   plain_one    a byte below 128 is a number
 --   plain_two    two bytes, the first 128 or more, are a number, where they come out below 16,384
 --   plain_arc    two such numbers that are zones, and distinct, are an arc
+--   plain_cases  what the proof of `quick_number` cites
 -- The second byte goes down by one around 256, so that zero comes out highest: below 16,384 it was 1 to 127.
 -- Groups that stand at a place are read there. Assumes nothing.
 use Prim.Native.Nat.{ℕ, ◌+◌, ◌-◌, ◌*◌, ◌%◌, ◌≤◌, ◌<◌}
@@ -47,3 +48,6 @@ module _ (s : List ℕ) (at : ℕ) where
   unfolding zone_at arc_at
   plain_arc {n} {t} {h} few tail head apart first second =
       rw (first (omega arith), lt-leb n t tail, second (omega arith), lt-leb n h head, ne_eqb t h apart)
+
+-- A number that a quick look finds.
+pub ruleset plain_cases = (around_small, plain_one, plain_two)

@@ -7,65 +7,35 @@ ghost use Rattle.std.specs.Prelude.{◌+◌, ◌≤◌, ◌<◌, length};
 ghost use Rattle.rules.specs.File.{arc_at};
 ghost use Rattle.filelook.specs.Looks.{NumberSeen, ArcSeen};
 
-// What a quick look at a number finds: its value, and the place after it.
-#[derive(Drop)]
-pub struct NumberLook {
-    pub value: usize,
-    pub next: usize,
-}
-
-// What a quick look at an arc finds: the place after a good one, or that one has to look closer.
-#[derive(Drop)]
-pub enum ArcLook {
-    Good(usize),
-    Closer,
-}
-
-// The number at a place where two bytes stand, taken to have at most two groups. A second group goes down by one
-// around 256, so that zero counts as 255: where it is zero, or says that another follows, the value comes out at
-// 16,384 or above.
-fn quick_number(s: &[u8], at: usize) -> NumberLook
+// The number at a place where two bytes stand, taken to have at most two groups, and the place after it. A second group
+// goes down by one around 256, so that zero counts as 255: where it is zero, or says that another follows, the value
+// comes out at 16,384 or above.
+#[tactic(auto, using(crate::proofs::PlainLaws::plain_cases))]
+fn quick_number(s: &[u8], at: usize) -> (usize, usize)
     requires { at + 1 < length s.now }
     ensures { NumberSeen result s.now at }
 {
-    let b = s[at];
+    let b = usize::from(s[at]);
     if b < 128 {
-        return NumberLook {
-            value: b as usize,
-            next: at + 1,
-        };
+        return (b, at + 1);
     }
-    let c = s[at + 1];
-    NumberLook {
-        value: b as usize + 128 * ((c as usize + 255) % 256),
-        next: at + 2,
-    }
+    let c = usize::from(s[at + 1]);
+    (b + 128 * ((c + 255) % 256), at + 2)
 }
 
-// The arc at a place, if four bytes stand there and they begin with a good one.
-pub fn quick_arc(s: &[u8], at: usize, zones: usize) -> ArcLook
+// The place after the arc at a place, if four bytes stand there and they begin with a good one.
+pub fn quick_arc(s: &[u8], at: usize, zones: usize) -> Option<usize>
     requires { zones ≤ 1024 }
     ensures { ArcSeen result (arc_at s.now zones at) }
 {
     let size = s.len();
-    if size < 4 {
-        return ArcLook::Closer;
+    if size < 4 || size - 4 < at {
+        return None;
     }
-    if size - 4 < at {
-        return ArcLook::Closer;
+    let (tail, mid) = quick_number(s, at);
+    let (head, next) = quick_number(s, mid);
+    if zones <= tail || zones <= head || tail == head {
+        return None;
     }
-    let tail = quick_number(s, at);
-    let head = quick_number(s, tail.next);
-    let t = tail.value;
-    let h = head.value;
-    if zones <= t {
-        return ArcLook::Closer;
-    }
-    if zones <= h {
-        return ArcLook::Closer;
-    }
-    if t == h {
-        return ArcLook::Closer;
-    }
-    ArcLook::Good(head.next)
+    Some(next)
 }

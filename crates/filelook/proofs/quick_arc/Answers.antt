@@ -6,7 +6,7 @@ use Rattle.filelook.proofs.quick_arc.Goals as goal
 
 pub returns : goal.returns
 returns c = (
-  c.quick_number-tail.result.value ⟶ c.quick_number-head.result.value,
+  c.quick_number-tail.result.0 ⟶ c.quick_number-head.result.0,
   plain_arc c.args.s.now c.args.at c.requires
       (omega arith)
       (omega arith)
@@ -14,6 +14,3 @@ returns c = (
       c.quick_number-tail.ensures.plain
       c.quick_number-head.ensures.plain,
 )
-
-pub quick_number-head-requires : goal.quick_number-head-requires
-quick_number-head-requires c = omega (arith, c.quick_number-tail.ensures.near)
