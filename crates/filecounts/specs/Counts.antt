@@ -1,16 +1,10 @@
 -- What the readers of the two counts say, in the words of the rules.
---   number_within r a b k at   a number that was read, refused with the kind k at a place where it is not from a to b
---   zones_at, count_at         the zone count of a file, and its arc count with room for a tails and b heads
+--   zones_at, count_at    the zone count of a file, and its arc count with room for a tails and b heads
 use Rattle.std.specs.Prelude.{ℕ, List, ◌||◌, ltb}
-use Rattle.rules.specs.declared.TroubleKind.{TroubleKind}
 use Rattle.rules.specs.declared.TroubleKind.TheVariants.{Zones, Arcs, Room}
 use Rattle.rules.specs.Answers.{refusal}
 use Rattle.rules.specs.Number.{Reading, got, then, unless, number_at}
 use Rattle.rules.specs.File.{zones_bad, arcs_bad}
-
--- a number that was read, with a test of its bounds
-abbrev pub number_within : Reading ℕ → ℕ → ℕ → TroubleKind → ℕ → Reading ℕ
-number_within r a b k at = then r λ n next. unless (ltb n a || ltb b n) (refusal k at) (got n next)
 
 -- the zone count: 4 ZONES at the first byte
 unfoldable pub zones_at : List ℕ → Reading ℕ

@@ -5,53 +5,49 @@
 
 ghost use Rattle.std.specs.Prelude.{◌≡◌};
 ghost use Rattle.filenumbers.specs.Readings.{number_reading};
-ghost use Rattle.filecounts.specs.Counts.{number_within, zones_at, count_at};
+ghost use Rattle.filecounts.specs.Counts.{zones_at, count_at};
 
-use filenumbers::{Cursor, NumberRead, number_refused};
-use rules::TroubleKind;
+use filenumbers::Cursor;
+use rules::{Trouble, TroubleKind};
 
-// A test of a number that was read: outside of its bounds there is a trouble of this kind at this place.
-fn within(
-    found: NumberRead,
-    least: usize,
-    most: usize,
-    kind: TroubleKind,
-    place: usize,
-) -> NumberRead
-    ensures { number_reading result ≡ number_within (number_reading found) least most kind place }
-{
-    match found {
-        NumberRead::Refused(t) => {
-            return NumberRead::Refused(t);
-        }
-        NumberRead::Number(n, next) => {
-            if n < least {
-                return number_refused(kind, place);
-            }
-            if most < n {
-                return number_refused(kind, place);
-            }
-            return NumberRead::Number(n, next);
-        }
-    }
-}
-
-// The zone count.
-pub fn zone_count(s: &[u8]) -> NumberRead
+// The zone count, and the place after it.
+#[tactic(auto, unfolding(crate::specs::Counts::zones_at))]
+pub fn zone_count(s: &[u8]) -> Result<(usize, Cursor), Trouble>
     ensures { number_reading result ≡ zones_at s.now }
 {
-    let first = Cursor { at: 0 };
-    let number = first.number(s);
-    within(number, 1, 1024, TroubleKind::Zones, 0)
+    let (zones, next) = Cursor { at: 0 }.number(s)?;
+    if zones == 0 || 1024 < zones {
+        return Err(Trouble {
+            kind: TroubleKind::Zones,
+            place: 0,
+        });
+    }
+    Ok((zones, next))
 }
 
-// The arc count, with room for so many tails and heads.
-pub fn arc_count(s: &[u8], c: Cursor, tails: usize, heads: usize) -> NumberRead
+// The arc count, with room for so many tails and heads, and the place after it.
+#[tactic(auto, unfolding(crate::specs::Counts::count_at))]
+pub fn arc_count(
+    s: &[u8],
+    c: Cursor,
+    tails: usize,
+    heads: usize,
+) -> Result<(usize, Cursor), Trouble>
     ensures { number_reading result ≡ count_at s.now tails heads c.at }
 {
     let place = c.at;
-    let number = c.number(s);
-    let few = within(number, 0, 4096, TroubleKind::Arcs, place);
-    let tailed = within(few, 0, tails, TroubleKind::Room, place);
-    within(tailed, 0, heads, TroubleKind::Room, place)
+    let (arcs, next) = c.number(s)?;
+    if 4096 < arcs {
+        return Err(Trouble {
+            kind: TroubleKind::Arcs,
+            place,
+        });
+    }
+    if tails < arcs || heads < arcs {
+        return Err(Trouble {
+            kind: TroubleKind::Room,
+            place,
+        });
+    }
+    Ok((arcs, next))
 }
