@@ -1,17 +1,18 @@
 -- Laws of texts put on a page: the length of its buffer is kept, and two puts are one put of both texts.
 --   put_paste      a put is the library's copy of a whole list
 --   put_length     the buffer keeps its length
+--   appended_none  where nothing was put, no text was
 --   appended_then  one text put after another is both put
 -- The idea: the library's laws of a copy carry over.
 -- Assumes nothing.
 use Prim.Native.Nat.{ℕ, ◌+◌, ◌≤◌}
-use mathlib.Core.Path.{◌≡◌, refl, ◌∙◌}
-use mathlib.Core.List.{List, ◌++◌}
+use mathlib.Core.Path.{◌≡◌, refl, sym, ◌∙◌}
+use mathlib.Core.List.{List, [], ◌++◌}
 use native.Mathlib.Nat.{le_refl}
 use native.Mathlib.Omega.{arith}
 use lib.ListN.{length, length-append}
 use lib.Seq.{paste, take-length, length-paste}
-use Rattle.std.proofs.lemmas.List.Edits.{paste-paste}
+use Rattle.std.proofs.lemmas.List.Edits.{paste_none, paste-paste}
 use Rattle.buffer.specs.declared.Page.{Page}
 use Rattle.buffer.specs.Put.{put, Appended}
 
@@ -31,6 +32,17 @@ put_put out at a b h =
     put_paste (put out at a) (at + length a) b
     ∙ rw (put_paste out at a, put_paste out at (a ++ b), length-append a b)
     (paste-paste out at a b (length a) (length b) refl refl h)
+
+-- where nothing was put, no text was
+pub appended_none : (p : Page) → p.len ≤ length p.bytes.now → Appended p [] p
+appended_none p h =
+    record {
+      stop = omega arith;
+      buffer = paste_none p.bytes.now p.len [] ∙ sym (put_paste p.bytes.now p.len []);
+      capacity = refl;
+      within = h;
+      same_reference = refl;
+    }
 
 -- one text put after another is both put
 pub appended_then : {p q r : Page} {a b : List ℕ} → Appended p a q → Appended q b r → Appended p (a ++ b) r

@@ -1,5 +1,6 @@
 -- What it means that a text is put after the text of a page.
 --   put out at s     the buffer out with the bytes s from place `at` on
+--   HasSpace p n     n bytes fit into what is left of the page
 --   HasRoom p s      s fits into what is left of the page
 --   Appended p s q   s was put after the text of p, and q is the page then
 -- Assumes nothing.
@@ -10,9 +11,13 @@ use Rattle.buffer.specs.declared.Page.{Page}
 unfoldable pub put : List ℕ → ℕ → List ℕ → List ℕ
 put out at s = take at out ++ s ++ drop (at + length s) out
 
+-- n bytes fit into what is left of the page
+abbrev pub HasSpace : Page → ℕ → Type 0
+HasSpace p n = p.len + n ≤ length p.bytes.now
+
 -- the bytes s fit into what is left of the page
 abbrev pub HasRoom : Page → List ℕ → Type 0
-HasRoom p s = p.len + length s ≤ length p.bytes.now
+HasRoom p s = HasSpace p (length s)
 
 -- the bytes s were put after the text: how long it is, and the buffer after it
 pub record Appended (p : Page) (s : List ℕ) (q : Page) : Type 0 where

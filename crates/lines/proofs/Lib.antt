@@ -1,3 +1,2 @@
--- Laws of the lines of links, and of the words of whys.
-pub mod Whys
+-- Laws of the lines of links.
 pub mod Links

@@ -1,53 +1,57 @@
-// The lines of links, put into a lent buffer of bytes: from, to and why of each.
+// The lines of links, put on a page: from, to and why of each.
 #![tactic(auto)]
 
-ghost use Rattle.std.specs.Prelude.{◌≤◌, length};
-ghost use Rattle.buffer.specs.Put.{TextRoom, Written};
+ghost use Rattle.std.specs.Prelude.{◌≡◌, length};
+ghost use Rattle.buffer.specs.Put.{HasRoom, Appended};
 ghost use Rattle.lines.specs.Lines.{why_text, line, lines_of};
 
-use buffer::{put_bytes, put_labelled, put_number};
+use buffer::Page;
+use rules::Why;
 
-// Puts the word of a why, by its number: 0 ring, 1 chain, 2 back.
-fn put_why(out: &mut [u8], at: usize, why: u16) -> usize
-    requires { TextRoom out.old at (why_text why) }
-    ensures { Written out.old at (why_text why) result out.new }
+// The links of a plan as three lists of numbers: where each starts, where it ends, and why it is there.
+#[derive(Clone, Copy)]
+pub struct LinkLists<'a> {
+    pub from: &'a [u16],
+    pub to: &'a [u16],
+    pub why: &'a [u16],
+    pub ghost same_len: { (length to.now ≡ length from.now) × (length why.now ≡ length from.now) },
+}
+
+// Puts the word of a why.
+#[tactic(auto, unfolding(rules::specs::Text::word))]
+fn put_why(page: &mut Page<'_>, why: Why)
+    requires { HasRoom page.old (why_text why) }
+    ensures { Appended page.old (why_text why) page.new }
 {
     match why {
-        0 => put_bytes(out, at, b" ring\n"),
-        1 => put_bytes(out, at, b" chain\n"),
-        _ => put_bytes(out, at, b" back\n"),
+        Why::Ring => page.put_bytes(b" ring\n"),
+        Why::Chain => page.put_bytes(b" chain\n"),
+        Why::Back => page.put_bytes(b" back\n"),
     }
 }
 
 // Puts the line of a link: from, to, why.
-fn put_link(out: &mut [u8], at: usize, from: usize, to: usize, why: u16) -> usize
-    requires { TextRoom out.old at (line from to why) }
-    ensures { Written out.old at (line from to why) result out.new }
+#[tactic(auto, unfolding(crate::specs::Lines::line, rules::specs::Text::word))]
+fn put_link(page: &mut Page<'_>, from: usize, to: usize, why: Why)
+    requires { HasRoom page.old (line from to why) }
+    ensures { Appended page.old (line from to why) page.new }
 {
-    let a = put_number(out, at, from);
-    let b = put_labelled(out, a, b" ", to);
-    put_why(out, b, why)
+    page.put_number(from);
+    page.put_labelled(b" ", to);
+    put_why(page, why)
 }
 
-// Puts the lines of the first `count` links, whose starts, ends and whys are lists of numbers.
-pub fn put_lines(
-    out: &mut [u8],
-    at: usize,
-    from: &[u16],
-    to: &[u16],
-    why: &[u16],
-    count: usize,
-) -> usize
-    requires count_in_bounds { (count ≤ length from.now) × ((count ≤ length to.now) × (count ≤ length why.now)) }
-    requires text_room { TextRoom out.old at (lines_of from.now to.now why.now count) }
-    ensures { Written out.old at
-        (lines_of from.now to.now why.now count) result out.new }
+// Puts the lines of links.
+pub fn put_lines(page: &mut Page<'_>, links: LinkLists<'_>)
+    requires { HasRoom page.old
+        (lines_of links.from.now links.to.now links.why.now (length links.from.now)) }
+    ensures { Appended page.old
+        (lines_of links.entry.from.now links.entry.to.now links.entry.why.now (length links.entry.from.now))
+        page.new }
 {
-    let mut end = at;
-    let mut i = 0;
-    while i < count {
-        end = put_link(out, end, from[i] as usize, to[i] as usize, why[i]);
-        i += 1;
+    for i in 0..links.from.len() {
+        let from = usize::from(links.from[i]);
+        let to = usize::from(links.to[i]);
+        put_link(page, from, to, Why::from(links.why[i]));
     }
-    end
 }
