@@ -21,7 +21,7 @@ use Rattle.theory.proofs.Ground.Ascending.{network_proper}
 use Rattle.arranged.specs.Marks.{Marked}
 use Rattle.memory.specs.Regions.{part, Holds}
 use Rattle.arranged.specs.Arranged.{ArrangedAt}
-use Rattle.arranged.specs.declared.Found.TheVariants.{At, Nothing}
+use Rattle.std.proofs.Common.{Some, None}
 use Rattle.memory.proofs.Regions.{part_long, holds_part, holds_at, holds_apart}
 use Rattle.memory.proofs.Stores.{drop_sets, getD_sets_at, getD_sets_high}
 use Rattle.arranged.proofs.ArrangedLaws.{arranged_kept, run_reach, reach_run}
@@ -158,7 +158,7 @@ module _ (w : List ℕ) (R : RowsAt) (S : SearchAt) (source at left : ℕ) (T : 
       passed i h f k l = rw (sym (sink_at k (omega arith))) (unreached (get_or w' (at + k) 0) (f k l))
 
     -- the turn where no sink has a mark
-    pub turned_nothing : FirstMarked w' S.marks at left Nothing → Turned w w' R S source at left Nothing
+    pub turned_nothing : FirstMarked w' S.marks at left None → Turned w w' R S source at left None
     turned_nothing f =
         record {
           rest = part w at left;
@@ -173,8 +173,8 @@ module _ (w : List ℕ) (R : RowsAt) (S : SearchAt) (source at left : ℕ) (T : 
         }
 
     -- the turn where a sink has a mark, and is taken out
-    pub turned_found : (w'' : List ℕ) (j z : ℕ) → FirstMarked w' S.marks at left (At j) → z ≡ get_or w' (at + j) 0 →
-        TakenOut w' w'' at left j → Turned w w'' R S source at left (At z)
+    pub turned_found : (w'' : List ℕ) (j z : ℕ) → FirstMarked w' S.marks at left (Some j) → z ≡ get_or w' (at + j) 0 →
+        TakenOut w' w'' at left j → Turned w w'' R S source at left (Some z)
     turned_found w'' j z f e O =
         let xs = part w at left in
         let inside : j < length xs = omega (arith, sinks_long, f.0) in

@@ -6,15 +6,13 @@
 --   without j xs        the list xs without its place j
 --   Along w R es        the arcs es stand in the rows R
 --   Turnable, Turned    what a turn asks and leaves: the sinks left, and the answer of `pick` for them
-use Rattle.std.specs.Prelude.{◌≡◌, ◌⊎◌, List, ◌++◌, ℕ, suc, ◌+◌, ◌≤◌, ◌<◌, length, get_or, take, drop}
-use Rattle.std.proofs.Math.Option.{Option, none, some}
+use Rattle.std.specs.Prelude.{◌≡◌, ◌⊎◌, List, ◌++◌, ℕ, suc, ◌+◌, ◌≤◌, ◌<◌, length, get_or, take, drop, Option, Some, None}
+use Rattle.std.proofs.Math.Option.{Option as Maybe, none, some}
 use Rattle.rules.specs.Network.{Arc, network_of, reaches}
 use Rattle.rules.specs.Plan.{Picked, pick}
 use Rattle.arranged.specs.Marks.{Marked}
 use Rattle.memory.specs.Regions.{part, Holds}
 use Rattle.arranged.specs.Arranged.{Between, ArrangedAt}
-use Rattle.arranged.specs.declared.Found.{Found}
-use Rattle.arranged.specs.declared.Found.TheVariants.{At, Nothing}
 use Rattle.search.specs.Marking.{Laid}
 use Rattle.workmap.specs.declared.RowsAt.{RowsAt}
 use Rattle.workmap.specs.declared.SearchAt.{SearchAt}
@@ -24,11 +22,11 @@ abbrev pub Unmarked : List ℕ → ℕ → ℕ → Type 0
 Unmarked w marks v = get_or w (marks + v) 0 ≡ 0
 
 -- j is the first place whose zone has a mark, or none of the list has one
-abbrev pub FirstMarked : List ℕ → ℕ → ℕ → ℕ → Found → Type 0
-FirstMarked w marks at count (At j) =
+abbrev pub FirstMarked : List ℕ → ℕ → ℕ → ℕ → Option ℕ → Type 0
+FirstMarked w marks at count (Some j) =
     (j < count)
     × (Marked w marks (get_or w (at + j) 0) × ((k : ℕ) → k < j → Unmarked w marks (get_or w (at + k) 0)))
-FirstMarked w marks at count Nothing = (k : ℕ) → k < count → Unmarked w marks (get_or w (at + k) 0)
+FirstMarked w marks at count None = (k : ℕ) → k < count → Unmarked w marks (get_or w (at + k) 0)
 
 -- place i is none of the n places from `at` on
 abbrev pub Outside : ℕ → ℕ → ℕ → Type 0
@@ -63,18 +61,18 @@ pub record Turnable (w : List ℕ) (R : RowsAt) (S : SearchAt) (source at left :
   pub small : AllBelow R.zones (part w at left)
 
 -- what `pick` answers where a turn finds the sink z, or nothing, and `rest` is left
-abbrev pub answered : Found → List ℕ → Option Picked
-answered (At z) rest = some (record { sink = z; rest = rest })
-answered Nothing rest = none
+abbrev pub answered : Option ℕ → List ℕ → Maybe Picked
+answered (Some z) rest = some (record { sink = z; rest = rest })
+answered None rest = none
 
 -- `rest` is one sink shorter than xs where a sink is found, and is xs where none is
-abbrev pub LeftOver : ℕ → List ℕ → Found → List ℕ → Type 0
-LeftOver n xs (At z) rest = (z < n) × (length rest + 1 ≡ length xs)
-LeftOver n xs Nothing rest = rest ≡ xs
+abbrev pub LeftOver : ℕ → List ℕ → Option ℕ → List ℕ → Type 0
+LeftOver n xs (Some z) rest = (z < n) × (length rest + 1 ≡ length xs)
+LeftOver n xs None rest = rest ≡ xs
 
 -- a turn: the list `rest` of the sinks that are left stands where the sinks stood, and what was found is what `pick`
 -- finds in any network whose arcs are arranged in the rows; only marks, stack and the list of sinks may differ
-pub record Turned (w w' : List ℕ) (R : RowsAt) (S : SearchAt) (source at left : ℕ) (r : Found) : Type 0 where
+pub record Turned (w w' : List ℕ) (R : RowsAt) (S : SearchAt) (source at left : ℕ) (r : Option ℕ) : Type 0 where
   pub rest : List ℕ
   pub long : length w' ≡ length w
   pub others : (i : ℕ) → S.queue + R.zones ≤ i → Outside i at left → get_or w' i 0 ≡ get_or w i 0

@@ -5,26 +5,19 @@
 ghost use Rattle.std.specs.Prelude.{ℕ, ◌+◌, ◌≤◌, ◌<◌, length, get_or};
 ghost use Rattle.turns.specs.Turn.{FirstMarked, TakenOut, Turnable, Turned};
 
-use arranged::Found;
-use memory::{fill, wide};
+use memory::fill;
 use search::search;
 use workmap::{RowsAt, SearchAt};
 
 // The first place in a list of zones, `count` of them from `at` on, whose zone has a mark.
-fn first_marked(work: &[u16], marks: usize, at: usize, count: usize) -> Found
+fn first_marked(work: &[u16], marks: usize, at: usize, count: usize) -> Option<usize>
     requires count_in_bounds { at + count ≤ length work.now }
     requires marks_in_bounds { (k : ℕ) → k < count → marks + get_or work.now (at + k) 0 < length work.now }
     ensures { FirstMarked work.now marks at count result }
 {
-    let mut i = 0;
-    while i < count {
-        let m = marks + wide(work[at + i]);
-        if work[m] != 0 {
-            return Found::At(i);
-        }
-        i += 1;
-    }
-    Found::Nothing
+    work[at..at + count]
+        .iter()
+        .position(|&z| work[marks + usize::from(z)] != 0)
 }
 
 // Takes the place j out of a list of `count` zones from `at` on: those behind it move down by one.
@@ -32,12 +25,7 @@ fn take_out(work: &mut [u16], at: usize, count: usize, j: usize)
     requires { (j < count) × (at + count ≤ length work.old) }
     ensures { TakenOut work.old work.new at count j }
 {
-    let mut i = j + 1;
-    while i < count {
-        let z = work[at + i];
-        work[at + i - 1] = z;
-        i += 1;
-    }
+    work.copy_within(at + j + 1..at + count, at + j);
 }
 
 // One source's turn: the first of the sinks left that a search from the source marks is taken out and answered. The
@@ -49,20 +37,14 @@ pub fn turn(
     source: usize,
     sinks: usize,
     left: usize,
-) -> Found
+) -> Option<usize>
     requires { Turnable work.old rows at source sinks left }
     ensures { Turned work.old work.new rows at source sinks left result }
 {
     fill(work, at.marks, rows.zones, 0);
     search(work, rows, at, source);
-    match first_marked(work, at.marks, sinks, left) {
-        Found::Nothing => {
-            return Found::Nothing;
-        }
-        Found::At(j) => {
-            let z = wide(work[sinks + j]);
-            take_out(work, sinks, left, j);
-            return Found::At(z);
-        }
-    }
+    let j = first_marked(work, at.marks, sinks, left)?;
+    let z = usize::from(work[sinks + j]);
+    take_out(work, sinks, left, j);
+    Some(z)
 }

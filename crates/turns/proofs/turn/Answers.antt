@@ -18,43 +18,45 @@ first_marked-requires c =
     let look = lookable a.work.now a.rows a.at a.source a.sinks a.left c.requires c.search.new.work done in
     record { count_in_bounds = look.0; marks_in_bounds = look.1 }
 
-pub returns-in-Nothing : goal.returns-in-Nothing
-returns-in-Nothing c =
+pub returns-in_err-j : goal.returns-in_err-j
+returns-in_err-j c =
     let a = c.args in
     let done = rw c.fill.ensures at c.search.ensures in
-    turned_nothing a.work.now a.rows a.at a.source a.sinks a.left c.requires c.search.new.work done c.in-Nothing.ensures
+    rw c.from_residual.ensures
+    (turned_nothing a.work.now a.rows a.at a.source a.sinks a.left c.requires c.search.new.work done
+    c.in_err-j.ensures)
 
 pub overflow_add-sinks : goal.overflow_add-sinks
 overflow_add-sinks c =
     let a = c.args in
     let done = rw c.fill.ensures at c.search.ensures in
     let look = lookable a.work.now a.rows a.at a.source a.sinks a.left c.requires c.search.new.work done in
-    omega (arith, look.0, c.in-At.ensures)
+    omega (arith, look.0, c.in_ok-j.ensures)
 
 pub offset_bounds-work-sinks : goal.offset_bounds-work-sinks
 offset_bounds-work-sinks c =
     let a = c.args in
     let done = rw c.fill.ensures at c.search.ensures in
     let look = lookable a.work.now a.rows a.at a.source a.sinks a.left c.requires c.search.new.work done in
-    omega (arith, look.0, c.in-At.ensures)
+    omega (arith, look.0, c.in_ok-j.ensures)
 
 pub bounds-work-sinks : goal.bounds-work-sinks
 bounds-work-sinks c =
     let a = c.args in
     let done = rw c.fill.ensures at c.search.ensures in
     let look = lookable a.work.now a.rows a.at a.source a.sinks a.left c.requires c.search.new.work done in
-    omega (arith, look.0, c.in-At.ensures)
+    omega (arith, look.0, c.in_ok-j.ensures)
 
 pub take_out-requires : goal.take_out-requires
 take_out-requires c =
     let a = c.args in
     let done = rw c.fill.ensures at c.search.ensures in
     let look = lookable a.work.now a.rows a.at a.source a.sinks a.left c.requires c.search.new.work done in
-    (omega (arith, c.in-At.ensures), look.0)
+    (omega (arith, c.in_ok-j.ensures), look.0)
 
-pub returns-in-At : goal.returns-in-At
-returns-in-At c =
+pub returns : goal.returns
+returns c =
     let a = c.args in
     let done = rw c.fill.ensures at c.search.ensures in
     turned_found a.work.now a.rows a.at a.source a.sinks a.left c.requires c.search.new.work done
-    c.take_out.new.work c.in-At.j c.wide-z.result c.in-At.ensures c.wide-z.ensures c.take_out.ensures
+    c.take_out.new.work c.in_ok-j.j c.from-z.result c.in_ok-j.ensures c.from-z.ensures c.take_out.ensures
