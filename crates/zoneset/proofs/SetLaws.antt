@@ -1,101 +1,88 @@
 -- Laws of the set and of the list that it is filled from, with no code in them.
---   none_held, beyond_held   zeros hold no number; one that has no word is not held
---   put_held                 a word with one bit more holds one number more
---   none_yet, put_listed     filling goes from the list's end: before its first turn, and one turn
---   none_suffice, all_suffice   of the set of an empty list no word has to be looked at; of any, all suffice
---   one_test                 tests that say the same of every number are equal
--- From the laws of bits; a number's word and bit are its quotient and its rest by 64. Assumes nothing.
-use mathlib.Core.Path.{◌≡◌, refl, sym, ap, ap₂, ◌∙◌}
-use mathlib.Core.Bool.{Bool, true, false, ◌&&◌, ◌||◌}
-use mathlib.Core.List.{List}
-use Prim.Native.Nat.{ℕ, zero, suc, ◌+◌, ◌-◌, ◌*◌, ◌/◌, ◌%◌, ◌^◌, ◌≤◌, ◌<◌}
-use native.Mathlib.Nat.{div-add-mod'}
+--   Filling      the words of a set that is being filled: of each number, it is in them or still to come
+--   fill_none, fill_turn, fill_all   before the first number, one number more, and past the last
+--   one_test     tests that say the same of every number are equal
+-- A set is row 0 of a table, so the laws of bits say what setting one does. Assumes nothing.
+use mathlib.Core.Path.{◌≡◌, refl, sym, ap, ◌∙◌}
+use mathlib.Core.Bool.{Bool, true, false, not, ◌&&◌, ◌||◌}
+use mathlib.Core.List.{List, [], ◌∷◌, Memᴰ as In}
+use mathlib.Core.Logic.{inl, inr}
+use Prim.Native.Nat.{ℕ, ◌+◌, ◌/◌, ◌%◌, ◌≤◌, ◌<◌}
 use native.Mathlib.Omega.{arith}
-use borrow.Author.Tests.{eqb-true, eq-eqb}
-use lib.Dec.{eqb}
-use lib.Bits.{bit_or}
-use lib.ListN.{length, get_or, set, take, drop, replicate, get_or-eq_default}
-use lib.Seq.{drop-cons, drop-length, take-length}
-use Rattle.rules.specs.Lists.{any, listed}
-use Rattle.theory.proofs.Ground.Bools.{bool_agree, and_true, true_and}
-use Rattle.theory.proofs.Ground.Few.{length_none}
-use Rattle.bits.specs.Bits.{bit}
-use Rattle.bits.proofs.Numbers.{bit_none, bit_stored, one_shifted}
-use Rattle.zoneset.specs.Held.{held, Suffices}
+use borrow.Author.Tests.{lt-ltb, le-ltb}
+use lib.Dec.{eqb, eqb-suc-zero}
+use lib.ListN.{length, get_or, drop, replicate, drop_of_length-le}
+use Rattle.std.proofs.lemmas.List.{get_or-replicate, at_drop_more}
+use Rattle.std.proofs.lemmas.Bool.{cases_lt}
+use Rattle.rules.specs.Lists.{listed}
+use Rattle.theory.proofs.Withdrawn.Remaining.{false_listed}
+use Rattle.bits.specs.Bits.{bit, bit_in, with_bit}
+use Rattle.bits.proofs.Numbers.{bit_none}
+use Rattle.bits.proofs.Tables.{with_bit_bits, with_bit_long}
+use Rattle.zoneset.specs.Held.{held}
 
--- zeros hold no number
-pub none_held : (z : ℕ) → held (replicate 16 0) z ≡ false
-unfolding held
-none_held z = ap (λ (n : ℕ). bit n (z % 64)) (zeros 16 (z / 64)) ∙ bit_none (z % 64)
+-- of each number below 1,024, it is in the words or among those from place i on, exactly where it is in the list
+pub record Filling (ws xs : List ℕ) (i : ℕ) : Type 0 where
+  pub long : length ws ≡ 64
+  pub all : (z : ℕ) → z < 1024 → (bit_in ws 64 0 z || listed (drop i xs) z) ≡ listed xs z
+
+-- before the first number
+pub fill_none : (xs : List ℕ) → Filling (replicate 64 0) xs 0
+unfolding bit_in
+fill_none xs =
+    record {
+      long = refl;
+      all =
+          λ z h.
+          ap (λ (n : ℕ). bit n (z % 16) || listed xs z) (get_or-replicate 64 (0 + z / 16) 0 0 (omega arith))
+          ∙ ap (λ (b : Bool). b || listed xs z) (bit_none (z % 16));
+    }
+
+-- one number more
+pub fill_turn : {ws xs : List ℕ} {i : ℕ} → Filling ws xs i → i < length xs → get_or xs i 0 < 1024
+    → Filling (with_bit ws 64 0 (get_or xs i 0)) xs (i + 1)
+fill_turn {ws} {xs} {i} F inside low =
+    let x : ℕ = get_or xs i 0 in
+    record {
+      long = with_bit_long ws 64 0 x ∙ F.long;
+      all =
+          λ z h.
+          ap (λ (b : Bool). b || listed (drop (i + 1) xs) z)
+          (with_bit_bits ws 64 0 x 0 z (omega (arith, F.long)) (omega arith) (omega arith))
+          ∙ moved (eqb z x) (bit_in ws 64 0 z) (listed (drop (i + 1) xs) z)
+          ∙ ap (λ (b : Bool). bit_in ws 64 0 z || b) (sym (at_drop_more (λ ys. listed ys z) xs i 0 inside))
+          ∙ F.all z h;
+    }
   where
-    zeros : (n i : ℕ) → ◌≡◌ {A = ℕ} (get_or (replicate n 0) i 0) 0
-    zeros zero i = refl
-    zeros (suc n) zero = refl
-    zeros (suc n) (suc i) = zeros n i
+    moved : (t b r : Bool) → ((t || b) || r) ≡ (b || elim t [ true ↦ true | false ↦ r ])
+    moved true true r = refl
+    moved true false r = refl
+    moved false true r = refl
+    moved false false r = refl
 
--- a number that has no word is not held
-pub beyond_held : (ws : List ℕ) (z : ℕ) → length ws ≤ z / 64 → held ws z ≡ false
+-- past the last, the set holds the numbers of the list: no word is looked at where the list is empty
+pub fill_all : {ws xs : List ℕ} {i : ℕ} → Filling ws xs i → length xs ≤ i → ((z : ℕ) → In z xs → z < 1024)
+    → (none : Bool) → none ≡ eqb (length xs) 0 → (z : ℕ) → held (record { words = ws; any = not none }) z ≡ listed xs z
 unfolding held
-beyond_held ws z h = ap (λ (n : ℕ). bit n (z % 64)) (get_or-eq_default ws 0 h) ∙ bit_none (z % 64)
-
--- two numbers are equal exactly when their quotients and their rests by k are
-same_place : (k y z : ℕ) → (eqb (y / k) (z / k) && eqb (y % k) (z % k)) ≡ eqb y z
-same_place k y z =
-    bool_agree
-    (λ h.
-    let t = and_true (eqb (y / k) (z / k)) (eqb (y % k) (z % k)) h in
-    eq-eqb y z (
-    sym (div-add-mod' y k)
-    ∙ ap₂ (λ (q r : ℕ). q * k + r) (eqb-true (y / k) (z / k) t.0) (eqb-true (y % k) (z % k) t.1)
-    ∙ div-add-mod' z k
-    ))
-    (λ h.
-    let e = eqb-true y z h in
-    true_and
-    (eq-eqb (y / k) (z / k) (ap (λ (n : ℕ). n / k) e))
-    (eq-eqb (y % k) (z % k) (ap (λ (n : ℕ). n % k) e)))
-
--- a word with one bit more holds one number more
-pub put_held : (ws : List ℕ) (zone z : ℕ) → zone / 64 < length ws
-    → held (set ws (zone / 64) (bit_or (get_or ws (zone / 64) 0) (1 * 2 ^ (zone % 64) % 2 ^ 64))) z
-    ≡ (eqb z zone || held ws z)
-unfolding held
-put_held ws zone z h =
-    rw (one_shifted 64 (zone % 64) (omega arith), bit_stored ws (zone / 64) (zone % 64) (z / 64) (z % 64) h, same_place)
-
--- before the first turn of filling
-pub none_yet : (xs : List ℕ) (z : ℕ) → held (replicate 16 0) z ≡ listed (drop (length xs) xs) z
-none_yet xs z = none_held z ∙ rw drop-length refl
-
--- the numbers from place i - 1 on are the one that stands there and those from i on
-pub put_listed : (xs : List ℕ) (i z : ℕ) (b : Bool) → 0 < i → i ≤ length xs → b ≡ listed (drop i xs) z
-    → (eqb z (get_or xs (i - 1) 0) || b) ≡ listed (drop (i - 1) xs) z
-put_listed xs i z b p h e =
-    let next : suc (i - 1) ≡ i = omega arith in
-    let inside : i - 1 < length xs = omega arith in
-    rw (e, drop-cons xs (i - 1) 0 inside, next) (front (eqb z (get_or xs (i - 1) 0)))
+fill_all {ws} {xs} {i} F past low none e z =
+    elim (cases_lt z 1024) [
+      | inl h ↦
+          let rest : drop i xs ≡ [] = drop_of_length-le xs past in
+          rw (lt-ltb z 1024 h) (known xs none e (bit_in ws 64 0 z) (sym (rw rest at (F.all z h))))
+      | inr h ↦
+          rw (le-ltb z 1024 h, false_listed xs z (λ m. omega (arith, low z m)))
+          (off (not none) (bit_in ws 64 0 z))
+    ]
   where
-    front : (t : Bool) → (t || any (eqb z) (drop i xs)) ≡ elim t [ true ↦ true | false ↦ any (eqb z) (drop i xs) ]
-    front true = refl
-    front false = refl
+    off : (a b : Bool) → ((a && false) && b) ≡ false
+    off true b = refl
+    off false b = refl
 
--- of the set of an empty list no word has to be looked at
-pub none_suffice : (xs : List ℕ) → length xs ≡ 0 → Suffices xs 0
-unfolding held
-none_suffice xs e = record {
-  most = omega arith;
-  holds = λ ws l h z. bit_none (z % 64) ∙ sym (ap (λ (ys : List ℕ). listed ys z) (length_none xs e));
-}
-
--- of any set, all words suffice
-pub all_suffice : (xs : List ℕ) → Suffices xs 16
-all_suffice xs = record {
-  most = omega arith;
-  holds = λ ws l h z. ap (λ (ys : List ℕ). held ys z) (take_all l) ∙ h z;
-}
-  where
-    take_all : {ws : List ℕ} → length ws ≡ 16 → take 16 ws ≡ ws
-    take_all {ws} l = rw (sym l) (take-length ws)
+    known : (ys : List ℕ) (none : Bool) → none ≡ eqb (length ys) 0 → (b : Bool) → listed ys z ≡ (b || false)
+        → ((not none && true) && b) ≡ listed ys z
+    known [] none e b f = rw e refl
+    known (y ∷ ys) none e true f = rw (e, f, eqb-suc-zero (length ys)) refl
+    known (y ∷ ys) none e false f = rw (e, f, eqb-suc-zero (length ys)) refl
 
 -- tests that say the same of every number are one test: so a definition over a test of numbers holds of either
 pub one_test : {f g : ℕ → Bool} → ((z : ℕ) → f z ≡ g z) → f ≡ g
