@@ -1,2 +1,0 @@
--- The laws that chains of tests are proved by.
-pub mod Chains
