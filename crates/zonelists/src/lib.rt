@@ -3,30 +3,24 @@
 #![tactic(auto)]
 
 ghost use Rattle.rules.specs.Calls.{list_tests};
-ghost use Rattle.probes.specs.Tested.{FoundAfter};
+ghost use Rattle.probes.specs.Tested.{FoundBy};
 
-use probes::Tested;
 use rules::{Trouble, TroubleKind};
 
-// LIST, after other tests: the first index at which the list is out of range or does not ascend.
-pub fn list(before: Tested, zones: usize, list: &[u16]) -> Tested
-    ensures { FoundAfter before (list_tests zones 0 0 list.now) result }
+// LIST: the first index at which the list is out of range or does not ascend.
+pub fn list(zones: usize, list: &[u16]) -> Result<(), Trouble>
+    ensures { FoundBy (list_tests zones 0 0 list.now) result }
 {
-    if let Tested::Refused(t) = before {
-        return Tested::Refused(t);
-    }
     let mut low = 0;
-    let mut i = 0;
-    while i < list.len() {
-        let zone = list[i] as usize;
+    for (place, &number) in list.iter().enumerate() {
+        let zone = usize::from(number);
         if zones <= zone || zone < low {
-            return Tested::Refused(Trouble {
+            return Err(Trouble {
                 kind: TroubleKind::ZoneList,
-                place: i,
+                place,
             });
         }
         low = zone + 1;
-        i += 1;
     }
-    Tested::Fine
+    Ok(())
 }

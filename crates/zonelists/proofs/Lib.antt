@@ -1,2 +1,0 @@
--- Laws of a list's tests one after the other.
-pub mod Along
