@@ -1,13 +1,15 @@
--- The tests before the arcs.
---   network_told    the tests of a network are those, and then the arcs'
---   none_told       NONE, after LIST: the list of withdrawn numbers is as long as the zone count
---   first_paired    where they find nothing, tails and heads pair up
---   first_below     and each withdrawn number is below 1,024
---   arcs_told       the arcs' tests with a set of the withdrawn numbers are those with their list
--- A list that passed LIST withdraws all numbers exactly where it is as long as the zone count. Assumes nothing.
-use Prim.Native.Nat.{ℕ, ◌<◌}
+-- The tests of a network, as the code makes them.
+--   network_told     the tests of a network are those before the arcs, and then the arcs'
+--   network_counts   where they find nothing, the counts are within their bounds
+--   none_told        NONE, after LIST: the list of withdrawn numbers is as long as the zone count
+--   first_paired     where the tests before the arcs find nothing, tails and heads pair up
+--   first_below      and each withdrawn number is below 1,024
+--   arcs_told        the arcs' tests with a set of the withdrawn numbers are those with their list
+-- A list that passed LIST withdraws all numbers exactly where it is as long as the zone count. A network that passes
+-- its tests is one that calls accept, which `theory` shows. Assumes nothing.
+use Prim.Native.Nat.{ℕ, ◌≤◌, ◌<◌}
 use native.Mathlib.Omega.{arith}
-use mathlib.Core.Path.{◌≡◌, sym, ap, subst}
+use mathlib.Core.Path.{◌≡◌, sym, ap, ◌∙◌}
 use mathlib.Core.List.{List, [], ◌∷◌, ◌++◌, append_assoc, Memᴰ as In}
 use mathlib.Core.Option.{none}
 use mathlib.Core.Bool.{Bool, not}
@@ -20,52 +22,55 @@ use Rattle.rules.specs.Network.{Arc}
 use Rattle.rules.specs.File.{zones_bad, arcs_bad}
 use Rattle.rules.specs.Calls.{Test, test, first_trouble, arcs_of, list_tests, none_test, arcs_tests, network_tests}
 use Rattle.theory.proofs.Ground.Bools.{or_false}
-use Rattle.theory.proofs.Files.Troubles.{passes, both_pass}
+use Rattle.theory.proofs.Files.Troubles.{or_else, first_trouble_append, passes, both_pass}
 use Rattle.theory.proofs.Files.Listing.{list_rises, rising_below, none_count}
+use Rattle.theory.proofs.Files.Accepting.{fine_with, fine_few}
+use Rattle.zoneset.specs.declared.ZoneSet.{ZoneSet}
 use Rattle.zoneset.specs.Held.{held}
 use Rattle.zoneset.proofs.SetLaws.{one_test}
-use Rattle.probes.specs.declared.Tested.{Tested}
-use Rattle.probes.specs.Tested.{FoundAfter, FoundBy}
-use Rattle.probes.proofs.Chains.{found_on, found_same, found_none}
 use Rattle.intake.specs.Taken.{first_tests}
 
 -- NONE, after LIST: the list is as long as the zone count.
-pub none_told : (n : ℕ) (gone : List ℕ) {b m r : Tested} → FoundAfter b (list_tests n 0 0 gone) m
-    → FoundAfter m (test (eqb (length gone) n) None 0 ∷ []) r → FoundAfter m (none_test n gone ∷ []) r
-none_told n gone f =
-    found_same
-    (λ e.
-    ap (λ (a : Bool). first_trouble (test a None 0 ∷ []))
-    (sym (none_count n gone (list_rises n 0 0 gone (found_none f e).1))))
+pub none_told : (n : ℕ) (gone : List ℕ) → none ≡ first_trouble (list_tests n 0 0 gone)
+    → first_trouble (none_test n gone ∷ []) ≡ first_trouble (test (eqb (length gone) n) None 0 ∷ [])
+none_told n gone e =
+    ap (λ (a : Bool). first_trouble (test a None 0 ∷ [])) (none_count n gone (list_rises n 0 0 gone (sym e)))
 
 module _ (n : ℕ) (ts hs gone : List ℕ) where
   -- The tests of a network are those before the arcs, and then the arcs'.
-  network_first : first_tests n ts hs gone ++ arcs_tests n 0 (arcs_of ts hs) (listed gone)
-      ≡ network_tests n ts hs gone
+  pub network_told : first_trouble (network_tests n ts hs gone)
+      ≡ or_else
+      (first_trouble (first_tests n ts hs gone))
+      (first_trouble (arcs_tests n 0 (arcs_of ts hs) (listed gone)))
   unfolding arcs_of
-  network_first =
+  network_told =
       ap
       (λ (xs : List Test).
-      test (not (eqb (length ts) (length hs))) Pair 0
+      first_trouble
+      (test (not (eqb (length ts) (length hs))) Pair 0
       ∷ test (zones_bad n) Zones 0
       ∷ test (arcs_bad (length ts)) Arcs 0
-      ∷ xs)
-      (append_assoc (list_tests n 0 0 gone) (none_test n gone ∷ []) (arcs_tests n 0 (arcs_of ts hs) (listed gone)))
+      ∷ xs))
+      (sym
+      (append_assoc
+      (list_tests n 0 0 gone)
+      (none_test n gone ∷ [])
+      (arcs_tests n 0 (arcs_of ts hs) (listed gone))))
+      ∙ first_trouble_append (first_tests n ts hs gone) (arcs_tests n 0 (arcs_of ts hs) (listed gone))
 
-  -- So what both find, one after the other, the tests of the network do.
-  pub network_told : {b r : Tested} → FoundBy (first_tests n ts hs gone) b
-      → FoundAfter b (arcs_tests n 0 (arcs_of ts hs) (listed gone)) r → FoundBy (network_tests n ts hs gone) r
-  network_told {r = r} f g = subst (λ (xs : List Test). FoundBy xs r) network_first (found_on f g)
+  -- Where the tests of a network find nothing, its counts are within their bounds.
+  pub network_counts : first_trouble (network_tests n ts hs gone) ≡ none → (n ≤ 1024) × (length ts ≤ 4096)
+  network_counts e = let g = (fine_with n ts hs gone e).fine in (g.accepted.zones_most, fine_few g)
 
-  module _ (e : first_trouble (first_tests n ts hs gone) ≡ none) where
-    -- Where those find nothing, tails and heads pair up.
+  module _ (e : none ≡ first_trouble (first_tests n ts hs gone)) where
+    -- Where the tests before the arcs find nothing, tails and heads pair up.
     pub first_paired : length ts ≡ length hs
-    first_paired = eqb-true _ _ (not-false _ (passes (not (eqb (length ts) (length hs))) _ _ e).0)
+    first_paired = eqb-true _ _ (not-false _ (passes (not (eqb (length ts) (length hs))) _ _ (sym e)).0)
 
     -- And each withdrawn number is below 1,024.
     pub first_below : (z : ℕ) → In z gone → z < 1024
     first_below z m =
-        let p = passes (not (eqb (length ts) (length hs))) _ _ e in
+        let p = passes (not (eqb (length ts) (length hs))) _ _ (sym e) in
         let q = passes (zones_bad n) _ _ p.1 in
         let r = passes (arcs_bad (length ts)) _ _ q.1 in
         let l = both_pass (list_tests n 0 0 gone) (none_test n gone ∷ []) r.1 in
@@ -74,8 +79,6 @@ module _ (n : ℕ) (ts hs gone : List ℕ) where
         omega arith
 
 -- The arcs' tests with a set of the withdrawn numbers are those with their list.
-pub arcs_told : (n : ℕ) (es : List Arc) (gone ws : List ℕ) {b r : Tested}
-    → ((z : ℕ) → held ws z ≡ listed gone z) → FoundAfter b (arcs_tests n 0 es (held ws)) r
-    → FoundAfter b (arcs_tests n 0 es (listed gone)) r
-arcs_told n es gone ws h =
-    found_same (λ e. ap (λ (g : ℕ → Bool). first_trouble (arcs_tests n 0 es g)) (one_test h))
+pub arcs_told : (n : ℕ) (es : List Arc) (s : ZoneSet) (gone : List ℕ) → ((z : ℕ) → held s z ≡ listed gone z)
+    → arcs_tests n 0 es (held s) ≡ arcs_tests n 0 es (listed gone)
+arcs_told n es s gone h = ap (λ (g : ℕ → Bool). arcs_tests n 0 es g) (one_test h)

@@ -1,5 +1,3 @@
--- Laws of the tests before the arcs, of the arcs' tests one after the other, and of the counts of a network that passes
--- its tests.
+-- Laws of the tests of a network, and of the arcs' tests one after the other.
 pub mod Leading
 pub mod Along
-pub mod Counts

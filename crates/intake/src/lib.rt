@@ -2,86 +2,61 @@
 // work memory, which asks for as much as the network's counts say.
 #![tactic(auto)]
 
-ghost use Rattle.std.specs.Prelude.{◌≡◌, [], ◌∷◌, length};
+ghost use Rattle.std.specs.Prelude.{◌≡◌, ◌≤◌, [], ◌∷◌, length};
 ghost use Rattle.rules.specs.Calls.{arcs_tests, arcs_of, room_test, asked_work};
 ghost use Rattle.zoneset.specs.Held.{held};
-ghost use Rattle.probes.specs.Tested.{FoundBy, FoundAfter, Counted};
+ghost use Rattle.probes.specs.Tested.{FoundBy};
 ghost use Rattle.intake.specs.Taken.{first_tests, Taken};
 
-use probes::{Tested, arc, room, test, zones_bad};
-use rules::TroubleKind;
+use probes::{arc, room, test, zones_bad};
+use rules::{NetworkLists, Trouble, TroubleKind};
 use workmap::asked_work;
 use zonelists::list;
-use zoneset::{ZoneSet, empty, fill, used};
-
-// What the tests of a network found, and its withdrawn zones, where they found no trouble.
-#[derive(Drop)]
-pub struct Intake {
-    pub found: Tested,
-    pub gone: ZoneSet,
-}
+use zoneset::ZoneSet;
 
 // The tests before the arcs.
-fn first_tests(zones: usize, tails: &[u16], heads: &[u16], gone: &[u16]) -> Tested
-    ensures { FoundBy (first_tests zones tails.now heads.now gone.now) result }
+fn first_tests(net: NetworkLists<'_>) -> Result<(), Trouble>
+    ensures { FoundBy
+        (first_tests net.entry.zones net.entry.tails.now net.entry.heads.now net.entry.gone.now)
+        result }
 {
-    let bad = zones_bad(zones);
-    let paired = test(
-        Tested::Fine,
-        tails.len() != heads.len(),
-        TroubleKind::Pair,
-        0,
-    );
-    let zoned = test(paired, bad, TroubleKind::Zones, 0);
-    let counted = test(zoned, 4096 < tails.len(), TroubleKind::Arcs, 0);
-    let listed = list(counted, zones, gone);
-    test(listed, gone.len() == zones, TroubleKind::None, 0)
+    test(net.tails.len() != net.heads.len(), TroubleKind::Pair, 0)?;
+    test(zones_bad(net.zones), TroubleKind::Zones, 0)?;
+    test(4096 < net.tails.len(), TroubleKind::Arcs, 0)?;
+    list(net.zones, net.gone)?;
+    test(net.gone.len() == net.zones, TroubleKind::None, 0)
 }
 
 // The tests of the arcs, one after the other.
-fn arcs(zones: usize, tails: &[u16], heads: &[u16], gone: &[u64]) -> Tested
-    requires { length tails.now ≡ length heads.now }
+#[tactic(auto, using(crate::proofs::Along::rest_turn, crate::proofs::Along::rest_none))]
+fn arcs(net: NetworkLists<'_>, gone: &ZoneSet) -> Result<(), Trouble>
+    requires { length net.tails.now ≡ length net.heads.now }
     ensures { FoundBy
-        (arcs_tests zones 0 (arcs_of tails.now heads.now) (held gone.now)) result }
+        (arcs_tests net.entry.zones 0 (arcs_of net.entry.tails.now net.entry.heads.now) (held gone.now))
+        result }
 {
-    let mut i = 0;
-    while i < tails.len() {
-        let r = arc(zones, tails[i], heads[i], gone, i);
-        if let Tested::Refused(t) = r {
-            return Tested::Refused(t);
-        }
-        i += 1;
+    for i in 0..net.tails.len() {
+        arc(net.zones, net.tails[i], net.heads[i], gone, i)?;
     }
-    Tested::Fine
+    Ok(())
 }
 
-// The tests of a network that is handed in. The set of its withdrawn zones is filled once, before the arcs.
-pub fn network(zones: usize, tails: &[u16], heads: &[u16], gone: &[u16]) -> Intake
-    ensures { Taken zones tails.now heads.now gone.now result }
+// The tests of a network that is handed in, and the set of its withdrawn zones, which is filled once, before the arcs.
+pub fn network(net: NetworkLists<'_>) -> Result<ZoneSet, Trouble>
+    ensures { Taken net.entry.zones net.entry.tails.now net.entry.heads.now net.entry.gone.now
+        result }
 {
-    let counted = first_tests(zones, tails, heads, gone);
-    if let Tested::Refused(t) = counted {
-        return Intake {
-            found: Tested::Refused(t),
-            gone: empty(),
-        };
-    }
-    let set = fill(gone);
-    let found = arcs(zones, tails, heads, &set[..used(gone)]);
-    Intake {
-        found: found,
-        gone: set,
-    }
+    first_tests(net)?;
+    let gone = ZoneSet::of(net.gone);
+    arcs(net, &gone)?;
+    Ok(gone)
 }
 
-// The test of the work memory's length. What is asked is found out only where there is no trouble before, as the counts
-// are within their bounds then.
-pub fn work(before: Tested, zones: usize, arcs: usize, lent: usize) -> Tested
-    requires { Counted before zones arcs }
-    ensures { FoundAfter before (room_test (asked_work zones arcs) lent ∷ []) result }
+// The test of the work memory's length, of a network whose counts passed their tests.
+pub fn work(zones: usize, arcs: usize, lent: usize) -> Result<(), Trouble>
+    requires zones_bound { zones ≤ 1024 }
+    requires arcs_bound { arcs ≤ 4096 }
+    ensures { FoundBy (room_test (asked_work zones arcs) lent ∷ []) result }
 {
-    if let Tested::Refused(t) = before {
-        return Tested::Refused(t);
-    }
-    room(Tested::Fine, asked_work(zones, arcs), lent)
+    room(asked_work(zones, arcs), lent)
 }

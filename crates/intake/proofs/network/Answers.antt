@@ -1,47 +1,41 @@
 -- `network` meets its contract: the tests before the arcs come first, and where they find nothing the withdrawn numbers
 -- can be a set, with which the arcs' tests are those of the rules. Assumes nothing.
-use mathlib.Core.Path.{◌≡◌, refl}
 use native.Mathlib.Omega.{arith}
-use lib.ListN.{length}
+use Rattle.std.proofs.lemmas.Grind.{common_steps}
 use Rattle.rules.specs.Calls.{arcs_of}
-use Rattle.theory.proofs.Files.Troubles.{none_not_some}
-use Rattle.probes.proofs.Chains.{found_stays, found_goes_on, found_says}
-use Rattle.intake.proofs.Leading.{network_told, first_paired, first_below, arcs_told}
+use Rattle.intake.proofs.Leading.{network_told, network_counts, first_paired, first_below, arcs_told}
 use Rattle.intake.proofs.network.Goals as goal
 
-pub returns-in-Refused : goal.returns-in-Refused
-returns-in-Refused c =
-    let a = c.args in
-    record {
-      found_by =
-          network_told a.zones a.tails.now a.heads.now a.gone.now
-          c.first_tests-counted.ensures (found_stays _ c.in-Refused.is);
-      set = λ e. absurd (none_not_some e refl);
-    }
+pub returns-in_err-first_tests : goal.returns-in_err-first_tests
+returns-in_err-first_tests c =
+    let n = c.args.net in
+    let told = network_told n.zones n.tails.now n.heads.now n.gone.now in
+    grind (arith, common_steps)
 
-pub fill-set-requires : goal.fill-set-requires
-fill-set-requires c =
-    let a = c.args in
-    first_below a.zones a.tails.now a.heads.now a.gone.now
-    (found_says c.first_tests-counted.ensures c.in_default.is)
+pub of-gone-requires : goal.of-gone-requires
+of-gone-requires c =
+    let n = c.args.net in
+    first_below n.zones n.tails.now n.heads.now n.gone.now c.in_ok-first_tests.ensures.first
 
-pub arcs-found-requires : goal.arcs-found-requires
-arcs-found-requires c =
-    let a = c.args in
-    first_paired a.zones a.tails.now a.heads.now a.gone.now
-    (found_says c.first_tests-counted.ensures c.in_default.is)
+pub arcs-requires : goal.arcs-requires
+arcs-requires c =
+    let n = c.args.net in
+    first_paired n.zones n.tails.now n.heads.now n.gone.now c.in_ok-first_tests.ensures.first
+
+pub returns-in_err-arcs : goal.returns-in_err-arcs
+returns-in_err-arcs c =
+    let n = c.args.net in
+    let told = network_told n.zones n.tails.now n.heads.now n.gone.now in
+    let same = arcs_told n.zones (arcs_of n.tails.now n.heads.now) c.of-gone.result n.gone.now c.of-gone.ensures in
+    grind (arith, common_steps)
 
 pub returns : goal.returns
 returns c =
-    let a = c.args in
-    let filled = c.fill-set.ensures in
-    let sixteen : length c.fill-set.result ≡ 16 = omega arith in
-    let looked = c.used.ensures.holds c.fill-set.result sixteen filled in
-    let es = arcs_of a.tails.now a.heads.now in
-    let told = arcs_told a.zones es a.gone.now _ looked c.arcs-found.ensures in
+    let n = c.args.net in
+    let told = network_told n.zones n.tails.now n.heads.now n.gone.now in
+    let same = arcs_told n.zones (arcs_of n.tails.now n.heads.now) c.of-gone.result n.gone.now c.of-gone.ensures in
     record {
-      found_by =
-          network_told a.zones a.tails.now a.heads.now a.gone.now
-          c.first_tests-counted.ensures (found_goes_on c.in_default.is told);
-      set = λ e. filled;
+      found_by = grind (arith, common_steps);
+      set = c.of-gone.ensures;
+      counts = network_counts n.zones n.tails.now n.heads.now n.gone.now (grind (arith, common_steps));
     }
