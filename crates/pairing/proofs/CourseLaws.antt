@@ -16,8 +16,7 @@ use lib.Seq.{ext_get_or, get_or-drop, get_or-set_other}
 use Rattle.rules.specs.Network.{Arc}
 use Rattle.rules.specs.Plan.{pick}
 use Rattle.memory.specs.Regions.{part, Holds}
-use Rattle.arranged.specs.declared.Found.{Found}
-use Rattle.arranged.specs.declared.Found.TheVariants.{At, Nothing}
+use Rattle.std.proofs.Common.{Option, Some, None}
 use Rattle.memory.proofs.Regions.{part_long, holds_part, holds_at, holds_apart, holds_none, holds_snoc, holds_store}
 use Rattle.arranged.proofs.ArrangedLaws.{arranged_kept}
 use Rattle.search.specs.Marking.{Laid}
@@ -176,7 +175,7 @@ module _ (v w : List ℕ) (L : Side) (s t i p : ℕ) (C : Course v w L s t i p) 
     -- the source has had its turn
     module _
         (w' : List ℕ)
-        (r : Found)
+        (r : Option ℕ)
         (T : Turned w w' L.rows L.search x L.lists.sinks (t - p) r)
       where
         -- nothing else has changed
@@ -214,12 +213,12 @@ module _ (v w : List ℕ) (L : Side) (s t i p : ℕ) (C : Course v w L s t i p) 
 
     -- the source reaches none of the sinks left, and goes behind the lone sources
     pub course_lone : (w' : List ℕ) →
-        Turned w w' L.rows L.search x L.lists.sinks (t - p) Nothing →
+        Turned w w' L.rows L.search x L.lists.sinks (t - p) None →
         Course v (set w' (L.pairs.lone + i - p) x) L s t (i + 1) p
     course_lone w' T =
         let P = C.able in
         let D = P.laid in
-        let O = turn_others w' Nothing T in
+        let O = turn_others w' None T in
         let place = L.pairs.lone + i - p in
         let is_place : place ≡ L.pairs.lone + length C.lone = omega arith in
         let long : length w' ≡ length v = O.long in
@@ -240,13 +239,13 @@ module _ (v w : List ℕ) (L : Side) (s t i p : ℕ) (C : Course v w L s t i p) 
           others = store_others v w' L place x O (omega arith) (omega arith);
           firsts_held =
               holds_store w' L.pairs.firsts (firsts cs) place x (inr (omega arith))
-              (turn_holds w' Nothing T L.pairs.firsts (firsts cs) (omega arith) C.firsts_held);
+              (turn_holds w' None T L.pairs.firsts (firsts cs) (omega arith) C.firsts_held);
           seconds_held =
               holds_store w' L.pairs.seconds (seconds cs) place x (inr (omega arith))
-              (turn_holds w' Nothing T L.pairs.seconds (seconds cs) (omega arith) C.seconds_held);
+              (turn_holds w' None T L.pairs.seconds (seconds cs) (omega arith) C.seconds_held);
           lone_held =
               holds_next w' L.pairs.lone C.lone place x is_place
-              (turn_holds w' Nothing T L.pairs.lone C.lone (omega arith) C.lone_held)
+              (turn_holds w' None T L.pairs.lone C.lone (omega arith) C.lone_held)
               (omega arith);
           left_held =
               holds_store w' L.lists.sinks C.left place x (inr (omega (arith, C.left_long)))
@@ -254,17 +253,17 @@ module _ (v w : List ℕ) (L : Side) (s t i p : ℕ) (C : Course v w L s t i p) 
           so_far = λ es A.
               C.so_far es A
               ∙ lone_more (reach_in L es) cs C.lone (sources_in v L s) C.left i x
-              (omega (arith, sources_long)) source_is (turn_picks w' Nothing T es A);
+              (omega (arith, sources_long)) source_is (turn_picks w' None T es A);
         }
 
     -- the source takes the sink z, and both go behind those of the pairs
     pub course_paired : (w' : List ℕ) (z : ℕ) →
-        Turned w w' L.rows L.search x L.lists.sinks (t - p) (At z) →
+        Turned w w' L.rows L.search x L.lists.sinks (t - p) (Some z) →
         Course v (set (set w' (L.pairs.firsts + p) x) (L.pairs.seconds + p) z) L s t (i + 1) (p + 1)
     course_paired w' z T =
         let P = C.able in
         let D = P.laid in
-        let O = turn_others w' (At z) T in
+        let O = turn_others w' (Some z) T in
         let long : length w' ≡ length v = O.long in
         let cs = C.pairs in
         let u = set w' (L.pairs.firsts + p) x in
@@ -297,25 +296,25 @@ module _ (v w : List ℕ) (L : Side) (s t i p : ℕ) (C : Course v w L s t i p) 
               (holds_store u L.pairs.firsts (firsts cs ++ (x ∷ [])) (L.pairs.seconds + p) z
               (inr (simp length-append (omega arith)))
               (holds_next w' L.pairs.firsts (firsts cs) (L.pairs.firsts + p) x first_next
-              (turn_holds w' (At z) T L.pairs.firsts (firsts cs) (omega arith) C.firsts_held)
+              (turn_holds w' (Some z) T L.pairs.firsts (firsts cs) (omega arith) C.firsts_held)
               (omega arith)));
           seconds_held =
               rw (seconds_more cs x z)
               (holds_next u L.pairs.seconds (seconds cs) (L.pairs.seconds + p) z second_next
               (holds_store w' L.pairs.seconds (seconds cs) (L.pairs.firsts + p) x (inl (omega arith))
-              (turn_holds w' (At z) T L.pairs.seconds (seconds cs) (omega arith) C.seconds_held))
+              (turn_holds w' (Some z) T L.pairs.seconds (seconds cs) (omega arith) C.seconds_held))
               (omega arith));
           lone_held =
               holds_store u L.pairs.lone C.lone (L.pairs.seconds + p) z (inl (omega arith))
               (holds_store w' L.pairs.lone C.lone (L.pairs.firsts + p) x (inl (omega arith))
-              (turn_holds w' (At z) T L.pairs.lone C.lone (omega arith) C.lone_held));
+              (turn_holds w' (Some z) T L.pairs.lone C.lone (omega arith) C.lone_held));
           left_held =
               holds_store u L.lists.sinks T.rest (L.pairs.seconds + p) z (inr (omega arith))
               (holds_store w' L.lists.sinks T.rest (L.pairs.firsts + p) x (inr (omega arith)) T.held);
           so_far = λ es A.
               C.so_far es A
               ∙ pair_more (reach_in L es) cs C.lone (sources_in v L s) C.left i x (omega (arith, sources_long))
-              source_is z T.rest (turn_picks w' (At z) T es A);
+              source_is z T.rest (turn_picks w' (Some z) T es A);
         }
 
 -- every source has had its turn: the memory holds the ordering

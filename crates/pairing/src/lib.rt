@@ -5,8 +5,6 @@
 ghost use Rattle.std.specs.Prelude.{List, ℕ, ◌+◌};
 ghost use Rattle.pairing.specs.Pairs.{Pairable, Course, PairingUnderway, Paired};
 
-use arranged::Found;
-use memory::wide;
 use turns::turn;
 use workmap::Side;
 
@@ -17,21 +15,17 @@ fn settle(work: &mut [u16], at: Side, s: usize, t: usize, i: usize, p: usize) ->
     ensures { (v : List ℕ) → Course v work.old at s t i p →
         Course v work.new at s t (i + 1) result }
 {
-    let sources = at.lists.sources;
-    let firsts = at.pairs.firsts;
-    let seconds = at.pairs.seconds;
-    let lone = at.pairs.lone;
-    let v = work[sources + i];
-    let source = wide(v);
+    let v = work[at.lists.sources + i];
+    let source = usize::from(v);
     match turn(work, at.rows, at.search, source, at.lists.sinks, t - p) {
-        Found::Nothing => {
-            work[lone + i - p] = v;
-            return p;
+        Some(z) => {
+            work[at.pairs.firsts + p] = v;
+            work[at.pairs.seconds + p] = z as u16;
+            p + 1
         }
-        Found::At(z) => {
-            work[firsts + p] = v;
-            work[seconds + p] = z as u16;
-            return p + 1;
+        None => {
+            work[at.pairs.lone + i - p] = v;
+            p
         }
     }
 }
@@ -43,11 +37,9 @@ pub fn pair(work: &mut [u16], at: Side, s: usize, t: usize) -> usize
     requires { Pairable work.old at s t }
     ensures { Paired work.old work.new at s t result }
 {
-    let mut k = 0;
     let mut p = 0;
-    while k < s {
+    for k in 0..s {
         p = settle(work, at, s, t, k, p);
-        k += 1;
     }
     p
 }

@@ -6,7 +6,8 @@
 --   without j xs        the list xs without its place j
 --   Along w R es        the arcs es stand in the rows R
 --   Turnable, Turned    what a turn asks and leaves: the sinks left, and the answer of `pick` for them
-use Rattle.std.specs.Prelude.{◌≡◌, ◌⊎◌, List, ◌++◌, ℕ, suc, ◌+◌, ◌≤◌, ◌<◌, length, get_or, take, drop, Option, Some, None}
+use Rattle.std.specs.Prelude.{◌≡◌, ◌⊎◌, List, ◌++◌, ℕ, suc, ◌+◌, ◌≤◌, ◌<◌, length, get_or, take, drop}
+use Rattle.std.specs.Prelude.{Option, Some, None}
 use Rattle.std.proofs.Math.Option.{Option as Maybe, none, some}
 use Rattle.rules.specs.Network.{Arc, network_of, reaches}
 use Rattle.rules.specs.Plan.{Picked, pick}

@@ -16,17 +16,11 @@ settle-p-requires c =
       more = search rules;
     }
 
-pub overflow_add-k : goal.overflow_add-k
-overflow_add-k c =
-    let l = c.loop-k in
-    let b = l.invariant.able in
-    omega (arith, b.laid.small, b.sources_few, l.invariant.turns)
-
 pub loop-k-preserved : goal.loop-k-preserved
 loop-k-preserved c = c.settle-p.ensures c.args.work.now c.loop-k.invariant
 
 pub returns : goal.returns
 returns c =
     let l = c.loop-k in
-    let all : l.k ≡ c.args.s = omega (arith, l.invariant.turns, c.loop-k-test.false) in
+    let all : l.k ≡ c.args.s = omega (arith, l.invariant.turns) in
     course_done c.args.work.now l.work c.args.at c.args.s c.args.t l.p (rw all at l.invariant)

@@ -12,25 +12,25 @@ pub turn-requires : goal.turn-requires
 turn-requires c =
     let a = c.args in
     turnable c.requires.began a.work.now a.at a.s a.t a.i a.p c.requires.course
-    c.wide-source.result
-    c.wide-source.ensures c.requires.more
+    c.from-source.result
+    c.from-source.ensures c.requires.more
 
-pub returns-in-Nothing : goal.returns-in-Nothing
-returns-in-Nothing c =
+pub returns-in-None : goal.returns-in-None
+returns-in-None c =
     let a = c.args in
     λ v C.
     course_lone v a.work.now a.at a.s a.t a.i a.p C (get_or a.work.now (a.at.lists.sources + a.i) 0) refl
-    c.requires.more c.turn.new.work (rw c.wide-source.ensures at c.in-Nothing.ensures)
+    c.requires.more c.turn.new.work (rw c.from-source.ensures at c.in-None.ensures)
 
 pub overflow_cast-work : goal.overflow_cast-work
-overflow_cast-work c = omega (arith, c.in-At.ensures.over.0, c.requires.course.able.laid.small)
+overflow_cast-work c = omega (arith, c.in-Some.ensures.over.0, c.requires.course.able.laid.small)
 
-pub bounds-work-seconds : goal.bounds-work-seconds
-bounds-work-seconds c = simp length-set (search rules)
+pub bounds-work-at-in-Some-2 : goal.bounds-work-at-in-Some-2
+bounds-work-at-in-Some-2 c = simp length-set (search rules)
 
-pub returns-in-At : goal.returns-in-At
-returns-in-At c =
+pub returns-in-Some : goal.returns-in-Some
+returns-in-Some c =
     let a = c.args in
     λ v C.
     course_paired v a.work.now a.at a.s a.t a.i a.p C (get_or a.work.now (a.at.lists.sources + a.i) 0) refl
-    c.requires.more c.turn.new.work c.in-At.z (rw c.wide-source.ensures at c.in-At.ensures)
+    c.requires.more c.turn.new.work c.in-Some.z (rw c.from-source.ensures at c.in-Some.ensures)
