@@ -19,11 +19,6 @@ use Rattle.theory.proofs.Files.Readings.{then_got}
 abbrev pub ahead : List Arc → Reading (List Arc) → Reading (List Arc)
 ahead es r = then r λ fs end. got (es ++ fs) end
 
--- With nothing found before it, a reading stands as it is.
-pub ahead_none : (r : Reading (List Arc)) → r ≡ ahead [] r
-ahead_none (got fs end) = refl
-ahead_none (bad t) = refl
-
 -- An arc found before a reading, and others before that.
 ahead_cons : (es : List Arc) (e : Arc) (r : Reading (List Arc))
     → ahead es (then r λ fs end. got (e ∷ fs) end) ≡ ahead (es ++ (e ∷ [])) r

@@ -1,11 +1,11 @@
 -- Part of the way through the pass that stores the arcs of an accepted file.
 --   Partway ..        k arcs were found and put into the lists, and the rest is ahead
---   partway_start, partway_turn, partway_end   before the first turn, after one more turn, and after the last
+--   partway_turn, partway_end   after one more turn, and after the last
 --   partway_due       before the last turn another arc of an accepted file is due
 -- A store at the end of what was put in is one more element of it. Assumes nothing.
 use Prim.Native.Nat.{ℕ, ◌+◌, ◌-◌, ◌≤◌, ◌<◌}
 use native.Mathlib.Omega.{arith}
-use mathlib.Core.Path.{◌≡◌, refl, sym, ap, ◌∙◌}
+use mathlib.Core.Path.{◌≡◌, sym, ap, ◌∙◌}
 use mathlib.Core.List.{List, [], ◌∷◌, ◌++◌, map, map-append}
 use lib.ListN.{length, set, length-append, length-map}
 use Rattle.rules.specs.Lists.{over}
@@ -14,7 +14,7 @@ use Rattle.rules.specs.Number.{got}
 use Rattle.rules.specs.File.{arc_at, arcs_at}
 use Rattle.filepasses.specs.Readings.{Accepted, ArcsStored}
 use Rattle.filepasses.proofs.Overs.{over_more}
-use Rattle.filepasses.proofs.ArcTurns.{ahead, ahead_none, turn_got, turn_whole, turns_over}
+use Rattle.filepasses.proofs.ArcTurns.{ahead, turn_got, turn_whole, turns_over}
 use Rattle.filepasses.proofs.ArcsDue.{Due, arc_due}
 
 -- One more element of a result that is a part of each arc found.
@@ -33,12 +33,6 @@ pub record Partway (s : List ℕ) (n m from : ℕ) (ts₀ hs₀ ts hs : List ℕ
   pub heads : hs ≡ over (map (λ (e : Arc). e.head) arcs) hs₀
 
 module _ {s : List ℕ} {n m from : ℕ} {ts₀ hs₀ : List ℕ} where
-  -- Before the first turn.
-  pub partway_start : Partway s n m from ts₀ hs₀ ts₀ hs₀ from 0
-  partway_start =
-      let e : m - 0 ≡ m = omega arith in
-      record { arcs = []; found = rw e (ahead_none _); count = refl; tails = refl; heads = refl }
-
   module _ {ts hs : List ℕ} {at k : ℕ} (p : Partway s n m from ts₀ hs₀ ts hs at k) where
     -- After one more turn.
     pub partway_turn : {t h next : ℕ} → k < m → m ≤ length ts₀ → m ≤ length hs₀ → arc_at s n at ≡ got (t ⟶ h) next

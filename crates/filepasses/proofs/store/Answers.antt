@@ -1,47 +1,37 @@
 use native.Mathlib.Omega.{arith}
-use mathlib.Core.Path.{refl}
-use lib.ListN.{length-set}
-use borrow.Author.Rules.{rules}
 use Rattle.filepasses.proofs.ArcsDue.{due_tail, due_head, due_arc}
-use Rattle.filepasses.proofs.Partway.{partway_start, partway_turn, partway_due, partway_end}
+use Rattle.filepasses.proofs.Partway.{partway_turn, partway_due, partway_end}
 use Rattle.filepasses.proofs.store.Goals as goal
-
-pub loop-k-init : goal.loop-k-init
-loop-k-init c = (search rules, refl, refl, partway_start)
 
 -- an arc is due in each turn, and it begins with its tail
 pub known-tail-requires : goal.known-tail-requires
 known-tail-requires c =
-    let due = partway_due c.loop-k.invariant.3 (omega arith) c.requires.accepted in
+    let due = partway_due c.loop-k.invariant (omega arith) c.requires.accepted in
     due_tail due c.requires.zones_bound
 
 -- and goes on with its head
 pub known-head-requires : goal.known-head-requires
 known-head-requires c =
-    let due = partway_due c.loop-k.invariant.3 (omega arith) c.requires.accepted in
+    let due = partway_due c.loop-k.invariant (omega arith) c.requires.accepted in
     due_head due c.known-tail.ensures c.requires.zones_bound
 
 -- the tail and the head that were read are those of the arc, and zones
 pub overflow_cast-tails : goal.overflow_cast-tails
 overflow_cast-tails c =
-    let due = partway_due c.loop-k.invariant.3 (omega arith) c.requires.accepted in
+    let due = partway_due c.loop-k.invariant (omega arith) c.requires.accepted in
     omega (arith, due_arc due c.known-tail.ensures c.known-head.ensures)
 
 pub overflow_cast-heads : goal.overflow_cast-heads
 overflow_cast-heads c =
-    let due = partway_due c.loop-k.invariant.3 (omega arith) c.requires.accepted in
+    let due = partway_due c.loop-k.invariant (omega arith) c.requires.accepted in
     omega (arith, due_arc due c.known-tail.ensures c.known-head.ensures)
 
 pub loop-k-preserved : goal.loop-k-preserved
 loop-k-preserved c =
     let l = c.loop-k in
-    let due = partway_due l.invariant.3 (omega arith) c.requires.accepted in
-    let read = due_arc due c.known-tail.ensures c.known-head.ensures in (
-      search rules,
-      simp length-set l.invariant.1,
-      simp length-set l.invariant.2,
-      partway_turn l.invariant.3 (omega arith) (omega arith) (omega arith) read.0,
-    )
+    let due = partway_due l.invariant (omega arith) c.requires.accepted in
+    let read = due_arc due c.known-tail.ensures c.known-head.ensures in
+    partway_turn l.invariant (omega arith) (omega arith) (omega arith) read.0
 
 pub returns : goal.returns
-returns c = partway_end c.loop-k.invariant.3 (omega arith)
+returns c = partway_end c.loop-k.invariant (omega arith)

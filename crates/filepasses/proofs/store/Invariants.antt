@@ -1,17 +1,8 @@
 -- `store` meets its contract. The loop's invariant: `k` arcs are in the lists, and the rest is ahead at `at`.
 -- Assumes nothing.
-use Prim.Native.Nat.{◌≤◌, ◌-◌}
-use mathlib.Core.Path.{◌≡◌}
-use lib.ListN.{length}
 use Rattle.filepasses.proofs.Partway.{Partway}
 use Rattle.filepasses.proofs.store.Given as goal
 
 abbrev pub invariant-loop-k : goal.invariant-loop-k
 invariant-loop-k l =
-    (l.k ≤ l.arcs)
-    × (length l.tails ≡ length l.initial.tails)
-    × (length l.heads ≡ length l.initial.heads)
-    × Partway l.s l.zones l.arcs l.initial.at l.initial.tails l.initial.heads l.tails l.heads l.at l.k
-
-abbrev pub decreases-loop-k : goal.decreases-loop-k
-decreases-loop-k l = l.arcs - l.k
+    Partway l.s l.zones l.arcs l.initial.at l.initial.tails l.initial.heads l.tails l.heads l.at l.k
