@@ -1,64 +1,56 @@
-// linkplan's text, written into a lent buffer of bytes. Each function puts one text from a place on, and answers with
-// the place where it stops; every other byte of the buffer stays as it came.
+// linkplan's text, put on a page: all lines of a plan, or the line of a refusal.
 #![tactic(auto)]
 
-ghost use Rattle.std.specs.Prelude.{◌+◌, ◌*◌, ◌≤◌, length};
-ghost use Rattle.buffer.specs.Put.{Written};
+ghost use Rattle.std.specs.Prelude.{length};
+ghost use Rattle.buffer.specs.Put.{HasRoom, Appended};
 ghost use Rattle.lines.specs.Lines.{lines_of};
 ghost use Rattle.text.specs.Texts.{plan_text, Putable, answer_lines};
 
-use buffer::put_bytes;
-use lines::put_lines;
-use phrases::{Figures, put_head, refuse};
-use rules::PlanAnswer;
+use buffer::Page;
+use lines::{LinkLists, put_lines};
+use phrases::{put_head, put_refusal};
+use rules::{FileCounts, PlanCounts, Trouble};
 
 // Puts all lines of a plan, the line "done" last.
-fn say_plan(out: &mut [u8], at: usize, f: Figures, from: &[u16], to: &[u16], why: &[u16]) -> usize
-    requires need_in_bounds { (f.need ≤ length from.now) × ((f.need ≤ length to.now) × (f.need ≤ length why.now)) }
-    requires text_room { at + 200 + 18 * f.need ≤ length out.old }
-    ensures { Written out.old at
-        (plan_text f (lines_of from.now to.now why.now f.need))
-        result out.new }
+#[tactic(auto, unfolding(crate::specs::Texts::plan_text, rules::specs::Text::word))]
+fn say_plan(page: &mut Page<'_>, file: FileCounts, plan: PlanCounts, links: LinkLists<'_>)
+    requires { HasRoom page.old
+        (plan_text file plan
+        (lines_of links.from.now links.to.now links.why.now (length links.from.now))) }
+    ensures { Appended page.old
+        (plan_text file plan
+        (lines_of links.entry.from.now links.entry.to.now links.entry.why.now (length links.entry.from.now)))
+        page.new }
 {
-    let a = put_head(out, at, f);
-    let b = put_lines(out, a, from, to, why, f.need);
-    put_bytes(out, b, b"done\n")
+    put_head(page, file, plan);
+    put_lines(page, links);
+    page.put_bytes(b"done\n")
 }
 
-// Puts what is printed for an answer of PLAN over the lists that it left, and answers the length of it.
+// Puts what is printed for an answer of PLAN over the lists that it left.
 pub fn put_answer(
-    zones: usize,
-    arcs: usize,
-    answer: PlanAnswer,
+    page: &mut Page<'_>,
+    file: FileCounts,
+    answer: Result<PlanCounts, Trouble>,
     from: &[u16],
     to: &[u16],
     why: &[u16],
-    out: &mut [u8],
-) -> usize
-    requires { Putable answer from.now to.now why.now out.old }
-    ensures { Written out.old 0
-        (answer_lines zones arcs answer from.now to.now why.now)
-        result out.new }
+)
+    requires { Putable answer from.now to.now why.now page.old }
+    ensures { Appended page.old
+        (answer_lines file answer from.now to.now why.now)
+        page.new }
 {
     match answer {
-        PlanAnswer::Refused(t) => return refuse(t, out),
-        PlanAnswer::Done {
-            sources,
-            sinks,
-            alone,
-            pairs,
-            need,
-        } => {
-            let f = Figures {
-                zones: zones,
-                arcs: arcs,
-                sources: sources,
-                sinks: sinks,
-                alone: alone,
-                pairs: pairs,
-                need: need,
+        Err(t) => put_refusal(page, t),
+        Ok(plan) => {
+            let need = plan.need;
+            let links = LinkLists {
+                from: &from[..need],
+                to: &to[..need],
+                why: &why[..need],
             };
-            return say_plan(out, 0, f, from, to, why);
+            say_plan(page, file, plan, links)
         }
     }
 }
