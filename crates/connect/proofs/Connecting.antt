@@ -41,7 +41,7 @@ use Rattle.sides.specs.Sides.{Tallied, Tally}
 use Rattle.connect.specs.Connect.{Connectable, Connected}
 use Rattle.theory.proofs.Planning.Few.{kinds_few, need_few, zones_few, weak_sum}
 
-module _ (w : List ℕ) (d : Side) (s t q : ℕ) (N : Network) (C : Connectable w d s t q N) where
+module _ {w : List ℕ} {d : Side} {s t q : ℕ} {N : Network} (C : Connectable w d s t q N) where
   -- how many rows there are
   abbrev n : ℕ
   n = d.rows.zones
@@ -134,7 +134,7 @@ module _ (w : List ℕ) (d : Side) (s t q : ℕ) (N : Network) (C : Connectable 
       ∙ ap₂ (pairing (reach_in d N.arcs)) (sym sources_there) (sym sinks_there)
 
   -- the pairing is done
-  module _ (w₁ : List ℕ) (p : ℕ) (Q : Paired w w₁ d s t p) where
+  module _ {w₁ : List ℕ} {p : ℕ} (Q : Paired w w₁ d s t p) where
     -- it leaves the network's ordering
     ordered : OrderingStands w₁ d p (ordering N)
     ordered = rw same_ordering (Q.ordered N.arcs (record { arranged = C.stands.arranged; between = between }))
@@ -161,7 +161,7 @@ module _ (w : List ℕ) (d : Side) (s t q : ℕ) (N : Network) (C : Connectable 
         C.stands.alone_held
 
     -- the counts are made
-    module _ (k : Counts) (K : Tallied s t q p k) where
+    module _ {k : Counts} (K : Tallied s t q p k) where
       -- they are those of the ordering
       tallied : Tally (ordering N) (alone N) k
       tallied = K (ordering N) (alone N) ordered.count sources_both sinks_both C.alone_are
@@ -226,9 +226,9 @@ module _ (w : List ℕ) (d : Side) (s t q : ℕ) (N : Network) (C : Connectable 
           }
 
       -- they are put
-      pub connected : (w₂ : List ℕ) (r : ℕ) → LinksPut w₁ w₂ k d r →
+      pub connected : {w₂ : List ℕ} {r : ℕ} → LinksPut w₁ w₂ k d r →
           Connected w w₂ d N (record { pairs = p; need = r })
-      connected w₂ r L =
+      connected L =
           record {
             pairs = ordered.count;
             need = L.count ∙ ap length links_are;

@@ -23,11 +23,8 @@ pub fn connect(work: &mut [u16], side: Side, s: usize, t: usize, q: usize) -> Co
     ensures { (N : Network) → Connectable work.old side s t q N
         → Connected work.old work.new side N result }
 {
-    let p = pair(work, side, s, t);
-    let n = counts_of(s, t, q, p);
+    let pairs = pair(work, side, s, t);
+    let n = counts_of(s, t, q, pairs);
     let need = put_links(work, n, side);
-    Connection {
-        pairs: p,
-        need: need,
-    }
+    Connection { pairs, need }
 }

@@ -3,27 +3,14 @@
 use Rattle.connect.proofs.Connecting.{pairable, pairs_low, linkable, connected}
 use Rattle.connect.proofs.connect.Goals as goal
 
-pub pair-p-requires : goal.pair-p-requires
-pair-p-requires c =
-    let a = c.args in
-    pairable a.work.now a.side a.s a.t a.q c.requires.0 c.requires.1
+pub pair-pairs-requires : goal.pair-pairs-requires
+pair-pairs-requires c = pairable c.requires.1
 
 pub counts_of-n-requires : goal.counts_of-n-requires
-counts_of-n-requires c =
-    let a = c.args in
-    pairs_low a.work.now a.side a.s a.t a.q c.requires.0 c.requires.1 c.pair-p.new.work
-    c.pair-p.result c.pair-p.ensures
+counts_of-n-requires c = pairs_low c.requires.1 c.pair-pairs.ensures
 
 pub put_links-need-requires : goal.put_links-need-requires
-put_links-need-requires c =
-    let a = c.args in
-    linkable a.work.now a.side a.s a.t a.q c.requires.0 c.requires.1 c.pair-p.new.work
-    c.pair-p.result c.pair-p.ensures c.counts_of-n.result c.counts_of-n.ensures
+put_links-need-requires c = linkable c.requires.1 c.pair-pairs.ensures c.counts_of-n.ensures
 
 pub returns : goal.returns
-returns c =
-    let a = c.args in
-    λ N C.
-    connected a.work.now a.side a.s a.t a.q N C c.pair-p.new.work c.pair-p.result
-    c.pair-p.ensures c.counts_of-n.result c.counts_of-n.ensures c.put_links-need.new.work c.put_links-need.result
-    c.put_links-need.ensures
+returns c = λ N C. connected C c.pair-pairs.ensures c.counts_of-n.ensures c.put_links-need.ensures
