@@ -9,8 +9,8 @@ use lib.ListN.{length}
 use borrow.Author.Tests.{lt-ltb, le-ltb}
 use Rattle.rules.specs.declared.TroubleKind.TheVariants.{Extra}
 use Rattle.rules.specs.declared.Trouble.{Trouble}
-use Rattle.rules.specs.declared.ReadAnswer.{ReadAnswer}
-use Rattle.rules.specs.Answers.{refusal}
+use Rattle.std.specs.Prelude.{Err}
+use Rattle.rules.specs.Answers.{refusal, read_done}
 use Rattle.rules.specs.Lists.{over}
 use Rattle.rules.specs.Network.{Arc}
 use Rattle.rules.specs.Number.{Reading, got, bad}
@@ -36,12 +36,12 @@ module _ (s : List ℕ) (n m at : ℕ) where
 
 -- A refusal leaves the lists as they came.
 pub answered_bad : {r : Reading Given} {ts hs : List ℕ} {t : Trouble} → r ≡ bad t
-    → ReadingAnswered r ts hs (ReadAnswer.Refused t) ts hs
+    → ReadingAnswered r ts hs (Err t) ts hs
 answered_bad e = record { told_is = rw e; tails = rw e; heads = rw e }
 
 -- Arcs that are found are counted, and are put into the lists.
 pub answered_got : {r : Reading Given} {ts hs ts' hs' : List ℕ} {n m : ℕ} {es : List Arc} {end : ℕ}
     → r ≡ got (record { zones = n; arcs = es }) end → length es ≡ m
     → ts' ≡ over (map (λ (e : Arc). e.tail) es) ts → hs' ≡ over (map (λ (e : Arc). e.head) es) hs
-    → ReadingAnswered r ts hs (ReadAnswer.Done n m) ts' hs'
+    → ReadingAnswered r ts hs (read_done n m) ts' hs'
 answered_got e l t h = record { told_is = rw (e, l); tails = rw e t; heads = rw e h }

@@ -1,8 +1,7 @@
 -- What is answered to a reading of a file, and what is left of the two lists that were lent.
 --   ReadingAnswered r ..   the answer to a reading r, and the two lists that it leaves
 use Rattle.std.specs.Prelude.{ℕ, ◌≡◌, List}
-use Rattle.rules.specs.declared.ReadAnswer.{ReadAnswer}
-use Rattle.rules.specs.Answers.{read_told}
+use Rattle.rules.specs.Answers.{ReadAnswer, read_told}
 use Rattle.rules.specs.Number.{Reading}
 use Rattle.rules.specs.File.{Given}
 use Rattle.rules.specs.Calls.{found_says, found_tails, found_heads}

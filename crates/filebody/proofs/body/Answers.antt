@@ -1,32 +1,28 @@
 -- `body` meets its contract: each return is the case of `body_at` that the pass that tests, or the file's
 -- end, picks; the arcs are stored in the last. Assumes nothing.
 use native.Mathlib.Omega.{arith}
+use mathlib.Core.Path.{◌≡◌}
+use Rattle.std.proofs.Common.{Err}
+use Rattle.std.proofs.lemmas.Grind.{common_steps}
 use Rattle.theory.proofs.Files.FileLaws.{arcs_count}
 use Rattle.filebody.proofs.Bodies.{body_refused, body_extra, body_ends, answered_bad, answered_got}
 use Rattle.filebody.proofs.body.Goals as goal
 
-pub returns-in-Refused : goal.returns-in-Refused
-returns-in-Refused c =
+pub returns-in_err-end : goal.returns-in_err-end
+returns-in_err-end c =
     let a = c.args in
-    answered_bad (body_refused a.file.now a.zones a.arcs a.from.at c.in-Refused.ensures)
+    let e : c.from_residual.result ≡ Err c.in_err-end.field-0.0 = grind (arith, common_steps) in
+    rw e (answered_bad (body_refused a.file.now a.zones a.arcs a.from.at c.in_err-end.ensures))
 
-pub returns-then-place-size : goal.returns-then-place-size
-returns-then-place-size c =
+pub returns-then-end-size : goal.returns-then-end-size
+returns-then-end-size c =
     let a = c.args in
-    answered_bad (body_extra a.file.now a.zones a.arcs a.from.at c.in-End.ensures.1 (omega arith))
+    answered_bad (body_extra a.file.now a.zones a.arcs a.from.at c.in_ok-end.ensures.1 (omega arith))
 
-pub store-requires : goal.store-requires
-store-requires c =
-    record {
-      zones_bound = c.requires.zones_bound;
-      arcs_in_bounds = c.requires.arcs_in_bounds;
-      accepted = (c.in-End.ensures.0, _, c.in-End.ensures.1);
-    }
-
-pub returns-in-End : goal.returns-in-End
-returns-in-End c =
+pub returns : goal.returns
+returns c =
     let a = c.args in
-    let e = c.in-End.ensures in
+    let e = c.in_ok-end.ensures in
     let t = c.store.ensures in
     answered_got
     (body_ends a.file.now a.zones a.arcs a.from.at e.1 (omega arith))
