@@ -2,117 +2,86 @@
 // values, and 0 in what is left.
 #![tactic(auto)]
 
-ghost use Rattle.std.specs.Prelude.{◌≡◌, [], ◌∷◌};
-ghost use Rattle.rules.specs.Answers.{yes_number, answer_eight, refused};
-ghost use Rattle.rules.specs.Answers.{read_told, write_told, strong_told, reach_told, skeleton_told, plan_told};
+ghost use Rattle.std.specs.Prelude.{◌≡◌, [], ◌∷◌, ◌++◌, Result, Ok, Err};
+ghost use Rattle.rules.specs.declared.Trouble.{Trouble};
+ghost use Rattle.rules.specs.Answers.{Told, answer_eight, refused};
+ghost use Rattle.rules.specs.Answers.{read_told, write_told, strong_told, plan_told};
+ghost use Rattle.std.proofs.Common.{refl};
 
-use rules::{
-    PlanAnswer, ReachAnswer, ReadAnswer, SkeletonAnswer, StrongAnswer, Trouble, WriteAnswer,
-    trouble_number,
-};
+use rules::{FileCounts, PlanCounts, Trouble};
 
-// The number of a yes or a no.
-fn yes_number(yes: bool) -> usize
-    ensures { result ≡ yes_number yes }
-{
-    if yes { 1 } else { 0 }
+// What a call hands out where it does not refuse: no call has more than five numbers.
+pub trait Values {
+    // What the call's answer says.
+    ghost told: { Result Self Trouble → Told };
+
+    // The values, and 0 in what is left.
+    fn values(self) -> [u64; 5]
+        ensures { answer_eight (told (Ok self)) ≡ 0 ∷ 0 ∷ result ++ 0 ∷ [] };
+
+    // A refusal is told by its number and its place alone.
+    ghost refuses: { (t : Trouble) → answer_eight (told (Err t)) ≡ answer_eight (refused 0 t) };
 }
 
-// Puts DONE with its values. No call has more than five.
-fn put_done(
-    answer: &mut [u64; 8],
-    first: usize,
-    second: usize,
-    third: usize,
-    fourth: usize,
-    fifth: usize,
-)
-    ensures { answer.new ≡ 0 ∷ 0 ∷ first ∷ second ∷ third ∷ fourth ∷ fifth ∷ 0 ∷ [] }
-{
-    *answer = [
-        0,
-        0,
-        first as u64,
-        second as u64,
-        third as u64,
-        fourth as u64,
-        fifth as u64,
-        0,
-    ];
-}
+// READ: the zone count and the arc count.
+impl Values for FileCounts {
+    ghost told = { read_told };
 
-// Puts a refusal: its number, its place, and 0 in all values.
-fn put_refusal(answer: &mut [u64; 8], t: Trouble)
-    ensures { answer.new ≡ answer_eight (refused 0 t) }
-{
-    let kind = t.kind;
-    let place = t.place;
-    let number = trouble_number(kind);
-    *answer = [number as u64, place as u64, 0, 0, 0, 0, 0, 0];
-}
+    ghost refuses = { λ t. refl };
 
-// Puts an answer of READ.
-pub fn put_read(answer: &mut [u64; 8], a: ReadAnswer)
-    ensures { answer.new ≡ answer_eight (read_told a) }
-{
-    match a {
-        ReadAnswer::Done { zones, arcs } => put_done(answer, zones, arcs, 0, 0, 0),
-        ReadAnswer::Refused(t) => put_refusal(answer, t),
+    fn values(self) -> [u64; 5] {
+        [self.zones as u64, self.arcs as u64, 0, 0, 0]
     }
 }
 
-// Puts an answer of WRITE.
-pub fn put_write(answer: &mut [u64; 8], a: WriteAnswer)
-    ensures { answer.new ≡ answer_eight (write_told a) }
-{
-    match a {
-        WriteAnswer::Done { length } => put_done(answer, length, 0, 0, 0, 0),
-        WriteAnswer::Refused(t) => put_refusal(answer, t),
+// WRITE and SKELETON: a length, an arc count.
+impl Values for usize {
+    ghost told = { write_told };
+
+    ghost refuses = { λ t. refl };
+
+    fn values(self) -> [u64; 5] {
+        [self as u64, 0, 0, 0, 0]
     }
 }
 
-// Puts an answer of STRONG.
-pub fn put_strong(answer: &mut [u64; 8], a: StrongAnswer)
-    ensures { answer.new ≡ answer_eight (strong_told a) }
-{
-    match a {
-        StrongAnswer::Done { yes } => put_done(answer, yes_number(yes), 0, 0, 0, 0),
-        StrongAnswer::Refused(t) => put_refusal(answer, t),
+// STRONG and REACH: a yes or a no.
+impl Values for bool {
+    ghost told = { strong_told };
+
+    ghost refuses = { λ t. refl };
+
+    fn values(self) -> [u64; 5] {
+        [u64::from(self), 0, 0, 0, 0]
     }
 }
 
-// Puts an answer of REACH.
-pub fn put_reach(answer: &mut [u64; 8], a: ReachAnswer)
-    ensures { answer.new ≡ answer_eight (reach_told a) }
-{
-    match a {
-        ReachAnswer::Done { yes } => put_done(answer, yes_number(yes), 0, 0, 0, 0),
-        ReachAnswer::Refused(t) => put_refusal(answer, t),
+// PLAN: five counts.
+impl Values for PlanCounts {
+    ghost told = { plan_told };
+
+    ghost refuses = { λ t. refl };
+
+    fn values(self) -> [u64; 5] {
+        [
+            self.sources as u64,
+            self.sinks as u64,
+            self.alone as u64,
+            self.pairs as u64,
+            self.need as u64,
+        ]
     }
 }
 
-// Puts an answer of SKELETON.
-pub fn put_skeleton(answer: &mut [u64; 8], a: SkeletonAnswer)
-    ensures { answer.new ≡ answer_eight (skeleton_told a) }
+// Puts an answer: its values, or the number and the place of its refusal.
+pub fn put_answer<T: Values>(answer: &mut [u64; 8], a: Result<T, Trouble>)
+    ensures { answer.new ≡ answer_eight (T.told a) }
 {
-    match a {
-        SkeletonAnswer::Done { arcs } => put_done(answer, arcs, 0, 0, 0, 0),
-        SkeletonAnswer::Refused(t) => put_refusal(answer, t),
-    }
-}
-
-// Puts an answer of PLAN.
-pub fn put_plan(answer: &mut [u64; 8], a: PlanAnswer)
-    ensures { answer.new ≡ answer_eight (plan_told a) }
-{
-    match a {
-        PlanAnswer::Done {
-            sources,
-            sinks,
-            alone,
-            pairs,
-            need,
-        } => put_done(answer, sources, sinks, alone, pairs, need),
-        PlanAnswer::Refused(t) => put_refusal(answer, t),
-    }
+    *answer = match a {
+        Ok(done) => {
+            let [first, second, third, fourth, fifth] = done.values();
+            [0, 0, first, second, third, fourth, fifth, 0]
+        }
+        Err(t) => [usize::from(t.kind) as u64, t.place as u64, 0, 0, 0, 0, 0, 0],
+    };
 }
