@@ -1,7 +1,7 @@
 -- One turn of `descend` in the memory: the top of the stack and its row, and the three stores of a turn.
 --   z, wa, wb     the top's zone, its next place and its row's end, as they are read; places count from `rows` on
 --   i, h          the step found the zone h at place i behind the next place
---   turn_state    after the stores the memory is that of the search with h on its stack
+--   turn_went     after the stores the memory is that of the search with h on its stack
 -- The three stores are a next place, a mark and a place of the order; the regions are told apart by their order in the
 -- memory. Assumes nothing.
 use mathlib.Core.Path.{◌≡◌, sym, ap, ◌∙◌}
@@ -14,11 +14,12 @@ use lib.Seq.{get_or-set_same, get_or-set_other, get_or-drop, drop-set-lt, take-s
 use Rattle.workmap.specs.declared.RowsAt.{RowsAt}
 use Rattle.workmap.specs.declared.OrderAt.{OrderAt}
 use Rattle.arranged.specs.Marks.{zeros, Marked, FirstIn}
-use Rattle.arranged.specs.declared.Found.TheVariants.{At, Nothing}
+use Rattle.std.specs.Prelude.{Some, None}
 use Rattle.arranged.proofs.Zeros.{zeros_other, zeros_mark}
 use Rattle.memory.specs.Regions.{cell}
-use Rattle.descent.specs.Memory.{Ready, State, OrderKept, Full}
+use Rattle.descent.specs.Memory.{Ready, State, OrderKept, Full, Went}
 use Rattle.memory.proofs.Places.{behind}
+use Rattle.descent.proofs.Keeping.{order_kept_then}
 use Rattle.descent.proofs.Push.{deeper}
 
 -- a list after three stores
@@ -61,12 +62,12 @@ module _ (w : List ℕ) {w' : List ℕ} (p q r x y u : ℕ) (made : w' ≡ set (
       take-set-le n (set (set w p x) q y) r u c ∙ take-set-le n (set w p x) q y b ∙ take-set-le n w p x a)
 
 -- the stack has a top, and its zone z, its next place wa and its row's end wb were read
-module _ {w : List ℕ} {R : RowsAt} {O : OrderAt} {lo hi : ℕ} (P : Ready w R O)
-    (S : State w R O lo hi) (top : hi < R.zones) {z wa wb : ℕ}
+module _ {w₀ w : List ℕ} {R : RowsAt} {O : OrderAt} {lo hi : ℕ} (P : Ready w R O) (V : Went w₀ w R O lo hi)
+    {z wa wb : ℕ}
     (ez : z ≡ cell w O.order hi) (ea : wa ≡ cell w O.next z) (eb : wb ≡ get_or w (R.starts + z + 1) 0) where
   -- The top is a zone.
-  pub z_zone : z < R.zones
-  z_zone = rw ez (S.deep.zone hi (inr (omega arith, top)))
+  z_zone : z < R.zones
+  z_zone = rw ez (V.state.deep.zone hi (inr (omega arith, V.top)))
 
   -- Its row ends at wb.
   stop_is : get_or (drop R.starts w) (z + 1) 0 ≡ wb
@@ -74,19 +75,11 @@ module _ {w : List ℕ} {R : RowsAt} {O : OrderAt} {lo hi : ℕ} (P : Ready w R 
 
   -- Its next place is not before its row's start.
   start_le : get_or (drop R.starts w) z 0 ≤ wa
-  start_le = omega (arith, S.deep.from z z_zone, ea)
-
-  -- Its next place is not behind its row's end.
-  pub a_le : wa ≤ wb
-  a_le = omega (arith, S.deep.upto z z_zone, ea, stop_is)
+  start_le = omega (arith, V.state.deep.from z z_zone, ea)
 
   -- Its row lies in the memory.
   pub b_fits : R.rows + wb ≤ length w
   b_fits = rw stop_is at (P.fits z z_zone)
-
-  -- Its row's end is a small number.
-  pub b_few : wb ≤ 4096
-  b_few = rw stop_is at (P.few z z_zone)
 
   -- An element of the rows, read from the part behind the starts.
   row_at : (i : ℕ) → R.rows ≤ i → get_or (drop R.starts w) (i - R.starts) 0 ≡ get_or w i 0
@@ -98,12 +91,12 @@ module _ {w : List ℕ} {R : RowsAt} {O : OrderAt} {lo hi : ℕ} (P : Ready w R 
       (P.sound.heads z i z_zone (omega (arith, start_le)) (omega (arith, stop_is)))
 
   -- Where the step finds nothing, all heads of the top have marks.
-  pub z_full : FirstIn w (R.rows + wa) (R.rows + wb) O.seen Nothing → Full w R O hi
+  pub z_full : FirstIn w (R.rows + wa) (R.rows + wb) O.seen None → Full w R O hi
   z_full F i = rw (sym ez, sym ea, stop_is) (λ l h. rw (row_at i (omega arith)) (F i l h))
 
   -- the step found h at place i, and the three stores are done
   module _ (i : ℕ) {h : ℕ} {w' : List ℕ} (eh : h ≡ get_or w (R.rows + wa + i) 0)
-      (F : FirstIn w (R.rows + wa) (R.rows + wb) O.seen (At i))
+      (F : FirstIn w (R.rows + wa) (R.rows + wb) O.seen (Some i))
       (made : w' ≡ set
       (set (set w (O.next + z) (R.rows + wa + i + 1 - R.rows)) (O.seen + h) (lo + (R.zones - hi) + 1))
       (O.order + (hi - 1)) h) where
@@ -139,7 +132,7 @@ module _ {w : List ℕ} {R : RowsAt} {O : OrderAt} {lo hi : ℕ} (P : Ready w R 
 
     -- There is room for one more on the stack.
     pub room : lo < hi
-    room = omega (arith, fewer_two, S.room)
+    room = omega (arith, fewer_two, V.state.room)
 
     -- Elsewhere the memory has what it had.
     other : (j : ℕ) → j ≢ O.next + z → j ≢ O.seen + h → j ≢ O.order + (hi - 1) → get_or w' j 0 ≡ get_or w j 0
@@ -210,12 +203,16 @@ module _ {w : List ℕ} {R : RowsAt} {O : OrderAt} {lo hi : ℕ} (P : Ready w R 
     prior k = rw (sym ez, sym ea) (λ l m. rw (row_at k (omega arith)) (F.1.1 k l m))
 
     -- A turn leaves the memory of the search with h on its stack.
-    pub turn_state : State w' R O lo (hi - 1)
+    turn_state : State w' R O lo (hi - 1)
     turn_state = record {
       end = omega arith;
-      room = omega (arith, fewer, S.room);
+      room = omega (arith, fewer, V.state.room);
       deep = rw back (deeper P.sound (cell w O.seen) (cell w' O.seen) (cell w O.order) (cell w' O.order)
-          (λ v. R.rows + cell w O.next v) (λ v. R.rows + cell w' O.next v) S.deep
+          (λ v. R.rows + cell w O.next v) (λ v. R.rows + cell w' O.next v) V.state.deep
           (omega (arith, room)) (omega (arith, room))
-          top low high is prior free mark mark_other put put_other moved moved_other);
+          V.top low high is prior free mark mark_other put put_other moved moved_other);
     }
+
+    -- The stack has a top again, and what was kept until now is kept.
+    pub turn_went : Went w₀ w' R O lo (hi - 1)
+    turn_went = record { kept = order_kept_then V.kept turn_kept; state = turn_state; top = omega (arith, V.top) }

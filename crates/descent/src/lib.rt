@@ -9,7 +9,6 @@
 ghost use Rattle.std.specs.Prelude.{◌<◌};
 ghost use Rattle.descent.specs.Memory.{Ready, State, Full, Went};
 
-use arranged::Found;
 use workmap::{OrderAt, RowsAt};
 
 // Goes down from the top of the stack along unmarked zones. Answers where the new top is: all its heads have marks.
@@ -20,28 +19,18 @@ pub fn descend(work: &mut [u16], rows: RowsAt, at: OrderAt, lo: usize, from: usi
         × Full work.new rows at result }
 {
     let mut hi = from;
+    // Kept (3): how far the stack grows is what the loop finds out, so no range is known beforehand.
     loop {
-        let zones = rows.zones;
-        let starts = rows.starts;
-        let heads = rows.rows;
-        let marks = at.seen;
-        let next = at.next;
-        let order = at.order;
-        let z = memory::wide(work[order + hi]);
-        let a = heads + memory::wide(work[next + z]);
-        let b = heads + memory::wide(work[starts + z + 1]);
-        match arranged::step(work, a, b, marks, zones) {
-            Found::Nothing => {
-                return hi;
-            }
-            Found::At(i) => {
-                let h = work[a + i];
-                work[next + z] = (a + i + 1 - heads) as u16;
-                let m = marks + memory::wide(h);
-                work[m] = (lo + (zones - hi) + 1) as u16;
-                hi -= 1;
-                work[order + hi] = h;
-            }
-        }
+        let z = usize::from(work[at.order + hi]);
+        let a = rows.rows + usize::from(work[at.next + z]);
+        let b = rows.rows + usize::from(work[rows.starts + z + 1]);
+        let Some(i) = arranged::step(work, a, b, at.seen, rows.zones) else {
+            return hi;
+        };
+        let h = work[a + i];
+        work[at.next + z] = (a + i + 1 - rows.rows) as u16;
+        work[at.seen + usize::from(h)] = (lo + (rows.zones - hi) + 1) as u16;
+        hi -= 1;
+        work[at.order + hi] = h;
     }
 }
