@@ -20,11 +20,10 @@ fn deepen(work: &mut [u16], rows: RowsAt, at: OrderAt, ended: usize) -> usize
 {
     let mut lo = ended;
     let mut hi = rows.zones - 1;
+    // Kept (3): each turn `descend` puts as many zones on the stack as it finds, so no range is known beforehand.
     while hi < rows.zones {
-        let order = at.order;
         hi = descend(work, rows, at, lo, hi);
-        let z = work[order + hi];
-        work[order + lo] = z;
+        work[at.order + lo] = work[at.order + hi];
         lo += 1;
         hi += 1;
     }
@@ -37,16 +36,11 @@ fn begin(work: &mut [u16], rows: RowsAt, at: OrderAt, r: usize, ended: usize) ->
     requires r_lt_zones { (r < rows.zones) × State work.old rows at ended rows.zones }
     ensures { Begun work.old work.new rows at result r }
 {
-    let zones = rows.zones;
-    let marks = at.seen;
-    let order = at.order;
-    let m = marks + r;
-    if work[m] != 0 {
+    if work[at.seen + r] != 0 {
         return ended;
     }
-    work[m] = (ended + 1) as u16;
-    let last = order + (zones - 1);
-    work[last] = r as u16;
+    work[at.seen + r] = (ended + 1) as u16;
+    work[at.order + (rows.zones - 1)] = r as u16;
     deepen(work, rows, at, ended)
 }
 
@@ -58,10 +52,8 @@ fn begin_all(work: &mut [u16], rows: RowsAt, at: OrderAt)
         × Finished work.new rows at }
 {
     let mut lo = 0;
-    let mut r = 0;
-    while r < rows.zones {
+    for r in 0..rows.zones {
         lo = begin(work, rows, at, r, lo);
-        r += 1;
     }
 }
 

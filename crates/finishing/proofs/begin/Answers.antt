@@ -1,26 +1,20 @@
 -- `begin` meets its contract: a zone that has a mark is done already, and one that has none is put on the stack, with
 -- its mark, and `deepen` ends it. Assumes nothing.
-use native.Mathlib.Omega.{arith}
 use mathlib.Core.Path.{refl}
-use lib.ListN.{length-set}
 use borrow.Author.Rules.{rules}
-use Rattle.descent.proofs.Keeping.{order_kept_then, ready_kept, spans}
+use Rattle.descent.proofs.Keeping.{order_kept_then, ready_kept}
 use Rattle.finishing.proofs.Start.{start_kept, start_marked, start_state}
 use Rattle.finishing.proofs.begin.Goals as goal
-
--- Places are inside the memory.
-pub bounds-work-last : goal.bounds-work-last
-bounds-work-last c = simp length-set (omega (arith, spans c.requires.ready))
 
 -- What `deepen` asks for is so.
 pub deepen-requires : goal.deepen-requires
 deepen-requires c =
     let s = c.requires in
     record {
-      ready = ready_kept s.ready (start_kept s.ready s.r_lt_zones.1 s.r_lt_zones.0 c.if-work-m-ne0.false refl);
+      ready = ready_kept s.ready (start_kept s.ready s.r_lt_zones.1 s.r_lt_zones.0 c.if-work-at-ne0.false refl);
       zones_nonzero = (
         search rules,
-        start_state s.ready s.r_lt_zones.1 s.r_lt_zones.0 c.if-work-m-ne0.false refl,
+        start_state s.ready s.r_lt_zones.1 s.r_lt_zones.0 c.if-work-at-ne0.false refl,
       );
     }
 
@@ -29,9 +23,9 @@ pub returns : goal.returns
 returns c =
     let s = c.requires in
     record {
-      kept = order_kept_then (start_kept s.ready s.r_lt_zones.1 s.r_lt_zones.0 c.if-work-m-ne0.false refl)
+      kept = order_kept_then (start_kept s.ready s.r_lt_zones.1 s.r_lt_zones.0 c.if-work-at-ne0.false refl)
           c.deepen.ensures.0;
       state = c.deepen.ensures.1;
       first = c.deepen.ensures.0.more c.args.r s.r_lt_zones.0
-          (start_marked s.ready s.r_lt_zones.1 s.r_lt_zones.0 c.if-work-m-ne0.false refl);
+          (start_marked s.ready s.r_lt_zones.1 s.r_lt_zones.0 c.if-work-at-ne0.false refl);
     }

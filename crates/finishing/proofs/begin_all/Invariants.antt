@@ -1,6 +1,6 @@
--- `begin_all` meets its contract. The loop's invariant: the stack is empty, and every zone below r has a mark. The
--- measure is the number of zones that are left. Assumes nothing.
-use Prim.Native.Nat.{ℕ, ◌≤◌, ◌<◌, ◌-◌}
+-- `begin_all` meets its contract. The loop's invariant: the stack is empty, and every zone below r has a mark. Assumes
+-- nothing.
+use Prim.Native.Nat.{ℕ, ◌<◌}
 use Rattle.arranged.specs.Marks.{Marked}
 use Rattle.descent.specs.Memory.{State, OrderKept}
 use Rattle.finishing.proofs.begin_all.Given as goal
@@ -8,9 +8,5 @@ use Rattle.finishing.proofs.begin_all.Given as goal
 -- what every turn of the loop keeps
 abbrev pub invariant-loop-r : goal.invariant-loop-r
 invariant-loop-r l =
-    (l.r ≤ l.rows.zones) × (OrderKept l.initial.work l.work l.rows l.at
-    × (State l.work l.rows l.at l.lo l.rows.zones × ((v : ℕ) → v < l.r → Marked l.work l.at.seen v)))
-
--- what every turn of the loop makes smaller
-abbrev pub decreases-loop-r : goal.decreases-loop-r
-decreases-loop-r l = l.rows.zones - l.r
+    OrderKept l.initial.work l.work l.rows l.at
+    × (State l.work l.rows l.at l.lo l.rows.zones × ((v : ℕ) → v < l.r → Marked l.work l.at.seen v))
