@@ -15,12 +15,9 @@ pub fn collect(work: &mut [u16], turned: RowsAt, order: OrderAt, at: SearchAt)
     ensures { (R : RowsAt) → Collectable work.old R turned order at
         → Collected work.old work.new R turned at }
 {
-    let mut k = turned.zones;
     let mut tail = 0;
-    while 0 < k {
-        k -= 1;
-        let places = order.order;
-        let z = memory::wide(work[places + k]);
+    for k in (0..turned.zones).rev() {
+        let z = usize::from(work[order.order + k]);
         tail = search::spread(work, turned, at, z, (z + 1) as u16, tail);
     }
 }
