@@ -133,7 +133,7 @@ module _ {w : List ℕ} {n : ℕ} {ts hs : List ℕ} (I : Lent w (map_of n (leng
     -- the second pass is done
     module _ {w₂ : List ℕ} (C : Collected w₁ w₂ (rows_at n) (turned_at n (length ts)) (roots_at n)) where
       -- What the naming asks for is so.
-      pub for_naming : ZonesNameable w₂ n (names_at n).names (names_at n).low (names_at n).roots
+      pub for_naming : ZonesNameable w₂ n (names_at n)
       for_naming = record {
         small = I.ready.fine.accepted.zones_most;
         apart = omega arith;
@@ -146,7 +146,7 @@ module _ {w : List ℕ} {n : ℕ} {ts hs : List ℕ} (I : Lent w (map_of n (leng
       }
 
       -- the naming is done
-      module _ {w₃ : List ℕ} (N : ZonesNamed w₂ w₃ n (names_at n).names (names_at n).low (names_at n).roots n) where
+      module _ {w₃ : List ℕ} (N : ZonesNamed w₂ w₃ n (names_at n) n) where
         -- The queue is kept.
         queue_same : (i : ℕ) → cell w₃ (names_at n).queue i ≡ cell w₂ (names_at n).queue i
         queue_same i = at_kept w₂ w₃ (names_at n).roots ((names_at n).queue + i) (omega arith) N.back
@@ -156,7 +156,7 @@ module _ {w : List ℕ} {n : ℕ} {ts hs : List ℕ} (I : Lent w (map_of n (leng
         queue_zone i l = rw (queue_same i) (C.topo.zone i l)
 
         -- What the listing asks for is so.
-        pub for_listing : TopsListable w₃ n (names_at n).tops (names_at n).names (names_at n).queue
+        pub for_listing : TopsListable w₃ n (names_at n)
         for_listing = record {
           apart = omega arith;
           before = omega arith;
@@ -194,8 +194,7 @@ module _ {w : List ℕ} {n : ℕ} {ts hs : List ℕ} (I : Lent w (map_of n (leng
         queue_after i j l h = rw (queue_same i, queue_same j, sym K.back) (C.topo.after i j l h)
 
         -- the listing is done, and there are k names
-        module _ {w₄ : List ℕ} {k : ℕ}
-            (L : TopsListed w₃ w₄ n (names_at n).tops (names_at n).names (names_at n).queue n k) where
+        module _ {w₄ : List ℕ} {k : ℕ} (L : TopsListed w₃ w₄ n (names_at n) n k) where
           -- The names are kept.
           names_same : (v : ℕ) → cell w₄ (names_at n).names v ≡ cell w₃ (names_at n).names v
           names_same v = at_kept w₃ w₄ (names_at n).names ((names_at n).names + v) (omega arith) L.back

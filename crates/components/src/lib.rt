@@ -25,6 +25,6 @@ pub fn name_all(work: &mut [u16], m: Map) -> usize
     };
     finishing::finish(work, m.rows, m.order);
     roots::collect(work, m.turned, m.order, at);
-    naming::name_zones(work, m.zones, to.names, to.low, to.roots);
-    naming::list_names(work, m.zones, to.tops, to.names, to.queue)
+    naming::name_zones(work, m.zones, to);
+    naming::list_names(work, m.zones, to)
 }

@@ -1,33 +1,33 @@
 // The name of every zone, the lowest zone of its component, from the zones' roots, in lent work memory. The zones are
 // gone through upwards, so the first zone that is met with a root is the lowest; it is noted for the root, one more
 // than itself.
-//     names, low, roots   where the names, the notes and the root numbers stand, of `zones` elements each
+//     at     where the names, the notes and the root numbers stand, of `zones` elements each
 ghost use Rattle.std.specs.Prelude.{◌<◌, length};
 ghost use Rattle.naming.specs.Names.{RootNoted, ZonesNameable, ZonesNamed};
 
-// The zone that is noted at `at`; where none is, v, which is noted then.
-fn note(work: &mut [u16], at: usize, v: usize) -> u16
-    requires { (at < length work.old) × (v < 1024) }
-    ensures { RootNoted work.old work.new at v result }
+use workmap::NamesAt;
+
+// The zone that is noted at `place`; where none is, v, which is noted then.
+fn note(work: &mut [u16], place: usize, v: usize) -> u16
+    requires { (place < length work.old) × (v < 1024) }
+    ensures { RootNoted work.old work.new place v result }
 {
-    let x = work[at];
+    let x = work[place];
     if x != 0 {
         return x - 1;
     }
-    work[at] = (v + 1) as u16;
+    work[place] = (v + 1) as u16;
     v as u16
 }
 
-// Every zone's name, from `names` on. Nothing is noted at the start.
-pub fn name_zones(work: &mut [u16], zones: usize, names: usize, low: usize, roots: usize)
-    requires { ZonesNameable work.old zones names low roots }
-    ensures { ZonesNamed work.old work.new zones names low roots zones }
+// Every zone's name, where `at` says. Nothing is noted at the start.
+pub fn name_zones(work: &mut [u16], zones: usize, at: NamesAt)
+    requires { ZonesNameable work.old zones at }
+    ensures { ZonesNamed work.old work.new zones at zones }
 {
-    let mut v = 0;
-    while v < zones {
-        let r = memory::wide(work[roots + v]) - 1;
-        let x = note(work, low + r, v);
-        work[names + v] = x;
-        v += 1;
+    for v in 0..zones {
+        let r = usize::from(work[at.roots + v]) - 1;
+        let x = note(work, at.low + r, v);
+        work[at.names + v] = x;
     }
 }
