@@ -4,16 +4,14 @@
 --   keep_put, keep_skip   what passes a test among one number more, where it passes and where it does not
 --   keep_few      no more pass than there are
 --   yes_zero, yes_one   a test's 1 or 0, compared;   both_ways   two tests, either way round
---   own_name_no, own_entered_no, own_exited   the three tests of a kind, one after the other
 -- Assumes nothing.
 use mathlib.Core.Path.{◌≡◌, refl, sym, ap, ◌∙◌}
-use mathlib.Core.Logic.{inl, inr, ◌≢◌}
+use mathlib.Core.Logic.{inl, inr}
 use mathlib.Core.Bool.{Bool, true, false, not, ◌&&◌}
 use mathlib.Core.List.{List, [], ◌∷◌, ◌++◌, append-nil}
 use Prim.Native.Nat.{ℕ, ◌+◌, ◌≤◌}
 use lib.Dec.{eqb}
 use lib.ListN.{length}
-use borrow.Author.Tests.{eq-eqb, ne_eqb}
 use Rattle.rules.specs.Lists.{any, keep, span}
 use Rattle.rules.specs.Answers.{yes_number}
 use Rattle.theory.proofs.Ground.Bools.{bool_cases}
@@ -21,9 +19,7 @@ use Rattle.theory.proofs.Ground.Lists.{any_hit, any_miss, keep_hit, keep_miss, k
 use Rattle.theory.proofs.Ground.Counting.{keep_length}
 use Rattle.theory.proofs.Ground.Ascending.{span_length}
 use Rattle.theory.proofs.Ground.Ascending.{span_more}
-use Rattle.workmap.specs.declared.KindsAt.{KindsAt}
-use Rattle.memory.specs.Regions.{cell}
-use Rattle.borders.specs.Borders.{raised, own_kind}
+use Rattle.borders.specs.Borders.{raised}
 
 -- A test's 1 or 0 is raised to 1, or kept.
 raised_true : (b : Bool) → raised b 1 ≡ 1
@@ -95,18 +91,3 @@ keep_skip p z e =
 -- No more pass than there are.
 pub keep_few : (p : ℕ → Bool) (z n : ℕ) → length (keep p (span z n)) ≤ n
 keep_few p z n = rw (span_length z n) at (keep_length p (span z n))
-
--- the three tests of `own_kind`
-module _ (k : KindsAt) (x y : ℕ) (w : List ℕ) (z : ℕ) where
-  -- The zone is no name.
-  pub own_name_no : cell w k.names z ≢ z → false ≡ own_kind k x y w z
-  own_name_no a = rw (ne_eqb (cell w k.names z) z a)
-
-  -- Another number stands in the region of what is entered.
-  pub own_entered_no : cell w k.names z ≡ z → cell w k.entered z ≢ x → false ≡ own_kind k x y w z
-  own_entered_no a b = rw (eq-eqb (cell w k.names z) z a, ne_eqb (cell w k.entered z) x b)
-
-  -- What stands in the region of what is left tells.
-  pub own_exited : cell w k.names z ≡ z → cell w k.entered z ≡ x
-      → eqb (cell w k.exited z) y ≡ own_kind k x y w z
-  own_exited a b = rw (eq-eqb (cell w k.names z) z a, eq-eqb (cell w k.entered z) x b)

@@ -13,18 +13,13 @@ fn note(at: KindsAt, tail: u16, head: u16, work: &mut [u16])
     requires { KindsRoom at work.old × ((tail < at.zones) × (head < at.zones)) }
     ensures { Noted at tail head work.old work.new }
 {
-    let names = at.names;
-    let entered = at.entered;
-    let exited = at.exited;
-    let t = names + memory::wide(tail);
-    let h = names + memory::wide(head);
-    let a = memory::wide(work[t]);
-    let b = memory::wide(work[h]);
+    let a = usize::from(work[at.names + usize::from(tail)]);
+    let b = usize::from(work[at.names + usize::from(head)]);
     if a == b {
         return;
     }
-    work[entered + b] = 1;
-    work[exited + a] = 1;
+    work[at.entered + b] = 1;
+    work[at.exited + a] = 1;
 }
 
 // Notes every arc. The two regions are clear at the start.
@@ -33,9 +28,7 @@ pub fn mark(at: KindsAt, tails: &[u16], heads: &[u16], work: &mut [u16])
     ensures { Marking at (arcs_of tails.now heads.now) (length tails.now)
         work.old work.new }
 {
-    let mut i = 0;
-    while i < tails.len() {
-        note(at, tails[i], heads[i], work);
-        i += 1;
+    for (&tail, &head) in tails.iter().zip(heads) {
+        note(at, tail, head, work);
     }
 }
