@@ -1,2 +1,3 @@
 -- What the contracts of the kinds say.
+pub mod Marks
 pub mod Lists

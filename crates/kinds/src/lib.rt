@@ -8,6 +8,7 @@ ghost use Rattle.std.specs.Prelude.{◌≡◌, ◌<◌};
 ghost use Rattle.rules.specs.Network.{network_with};
 ghost use Rattle.rules.specs.Calls.{arcs_of};
 ghost use Rattle.borders.specs.Borders.{KindsRoom, own_kind};
+ghost use Rattle.kinds.specs.Marks.{entered_mark, exited_mark};
 ghost use Rattle.kinds.specs.Lists.{Listable, Listing, Nameable, Withdrawable, Listed};
 
 use borders::mark;
@@ -22,37 +23,50 @@ pub struct Counts {
     pub alone: usize,
 }
 
-// Whether z is a name, with x in the region of what is entered and y in the region of what is left.
-fn of_kind(at: KindsAt, x: u16, y: u16, z: usize, work: &[u16]) -> bool
-    requires { KindsRoom at work.now × (z < at.zones) }
-    ensures { result ≡ own_kind at x y work.now z }
-{
-    let names = at.names;
-    let entered = at.entered;
-    let exited = at.exited;
-    let n = memory::wide(work[names + z]);
-    if n != z {
-        return false;
-    }
-    if work[entered + z] != x {
-        return false;
-    }
-    work[exited + z] == y
+// The kinds of components.
+#[derive(Clone, Copy)]
+enum Kind {
+    Source,
+    Sink,
+    Alone,
 }
 
-// The names of the kind that x and y tell go to `to`, and the answer is how many there are.
-fn list(at: KindsAt, x: u16, y: u16, to: usize, work: &mut [u16]) -> usize
+impl Kind {
+    // What stands for the name of a component of this kind where it is noted that it is entered, and that it is left.
+    fn marks(self) -> (u16, u16)
+        ensures entered { result.0 ≡ entered_mark self }
+        ensures exited { result.1 ≡ exited_mark self }
+    {
+        match self {
+            Kind::Source => (0, 1),
+            Kind::Sink => (1, 0),
+            Kind::Alone => (0, 0),
+        }
+    }
+}
+
+// Whether z is the name of a component of this kind.
+fn of_kind(at: KindsAt, kind: Kind, z: usize, work: &[u16]) -> bool
+    requires { KindsRoom at work.now × (z < at.zones) }
+    ensures { result ≡ own_kind at (entered_mark kind) (exited_mark kind) work.now z }
+{
+    let (entered, exited) = kind.marks();
+    usize::from(work[at.names + z]) == z
+        && work[at.entered + z] == entered
+        && work[at.exited + z] == exited
+}
+
+// The names of the kind go to `to`, and the answer is how many there are.
+fn list(at: KindsAt, kind: Kind, to: usize, work: &mut [u16]) -> usize
     requires { Listable at to work.old }
-    ensures { Listing at x y to at.zones result work.old work.new }
+    ensures { Listing at (entered_mark kind) (exited_mark kind) to at.zones result work.old work.new }
 {
     let mut count = 0;
-    let mut z = 0;
-    while z < at.zones {
-        if of_kind(at, x, y, z, work) {
+    for z in 0..at.zones {
+        if of_kind(at, kind, z, work) {
             work[to + count] = z as u16;
             count += 1;
         }
-        z += 1;
     }
     count
 }
@@ -75,12 +89,12 @@ pub fn list_kinds(
 {
     mark(at, tails, heads, work);
     stamp(work, at.entered, at.zones, gone, 2);
-    let sources = list(at, 0, 1, to.sources, work);
-    let sinks = list(at, 1, 0, to.sinks, work);
-    let alone = list(at, 0, 0, to.alone, work);
+    let sources = list(at, Kind::Source, to.sources, work);
+    let sinks = list(at, Kind::Sink, to.sinks, work);
+    let alone = list(at, Kind::Alone, to.alone, work);
     Counts {
-        sources: sources,
-        sinks: sinks,
-        alone: alone,
+        sources,
+        sinks,
+        alone,
     }
 }

@@ -11,9 +11,8 @@ note-requires c =
     let hs = c.args.heads.now in
     let l = c.loop-tail in
     let t = zip_turn ts hs l.yielded _ _ c.next.new.self _ (cc) (cc) l.yielded_by _ c.in-Some.is
-        c.next.ensures.steps in
-    let m = index_arcs ts hs _ t.0 t.1 in
-    (
+    c.next.ensures.steps in
+    let m = index_arcs ts hs _ t.0 t.1 in (
       room_around c.requires.room l.invariant.around,
       (rw (t.2 0) (c.requires.between.tails m), rw (t.3 0) (c.requires.between.heads m)),
     )
@@ -25,5 +24,5 @@ loop-tail-preserved c =
     let hs = c.args.heads.now in
     let l = c.loop-tail in
     let t = zip_turn ts hs l.yielded _ _ c.next.new.self _ (cc) (cc) l.yielded_by _ c.in-Some.is
-        c.next.ensures.steps in
+    c.next.ensures.steps in
     simp length-append (marking_more ts hs t.0 t.1 c.requires.room l.invariant (rw (t.2 0, t.3 0) at c.note.ensures))
