@@ -1,6 +1,5 @@
 -- The lowest number that is not withdrawn, in a list of withdrawn numbers that ascends.
 --   Front gone i      the first i withdrawn numbers are the numbers below i
---   front_more        one number more
 --   lowest_found      i is the lowest number that is not withdrawn, where it does not stand at its own index
 --   lowest_remains    where some zone of n remains, the lowest number that is not withdrawn is one
 -- Each element of a list that ascends is at least its index. So a number that all lower numbers stand before can only
@@ -12,7 +11,6 @@ use mathlib.Core.Path.{◌≡◌, subst}
 use mathlib.Core.Logic.{inl, inr}
 use mathlib.Core.List.{List, [], ◌∷◌, Memᴰ as In}
 use lib.ListN.{length, get_or}
-use borrow.Author.Count.{below_more}
 use Rattle.rules.specs.Network.{Above, Ascending, remaining}
 use Rattle.theory.proofs.Ground.Bools.{true_not_false}
 use Rattle.theory.proofs.Withdrawn.Remaining.{true_listed, false_listed, remaining_in, in_remaining}
@@ -35,10 +33,6 @@ ascending_least (x ∷ xs) (suc k) h l = omega (arith, above_least x xs k h (ome
 -- the first i numbers of the list are the numbers below i
 abbrev pub Front : List ℕ → ℕ → Type 0
 Front gone i = (j : ℕ) → j < i → get_or gone j 0 ≡ j
-
--- one number more
-pub front_more : (gone : List ℕ) (i : ℕ) → Front gone i → get_or gone i 0 ≡ i → Front gone (i + 1)
-front_more gone i F e = below_more (λ (j : ℕ). get_or gone j 0 ≡ j) i F e
 
 -- the list ascends, and begins with the numbers below i
 module _ (gone : List ℕ) (A : Ascending gone) (i : ℕ) (l : i ≤ length gone) (F : Front gone i) where

@@ -1,5 +1,4 @@
 -- Stamps at the places of withdrawn numbers.
---   stamped_none     nothing is stamped yet
 --   stamped_more     one number more is stamped
 -- A number stands among the first k + 1 of a list where it stands among the first k, or is the next. Assumes nothing.
 use Prim.Native.Nat.{ℕ, ◌+◌, ◌≤◌, ◌<◌}
@@ -36,10 +35,6 @@ listed_end (y ∷ ys) x z =
     ends : (b : Bool) → true ≡ (b || true)
     ends true = refl
     ends false = refl
-
--- nothing is stamped yet
-pub stamped_none : (w : List ℕ) (at n x : ℕ) → Stamped w w at n [] x
-stamped_none w at n x = record { long = refl; inside = λ z h. refl; below = refl; above = refl }
 
 -- the first k numbers are stamped in w', and the next is below n
 module _

@@ -13,14 +13,12 @@ pub fn lowest(gone: &[u16]) -> usize
     requires { Ascending gone.now }
     ensures { Lowest gone.now result }
 {
-    let mut i = 0;
-    while i < gone.len() {
-        if gone[i] as usize != i {
+    for (i, &zone) in gone.iter().enumerate() {
+        if usize::from(zone) != i {
             return i;
         }
-        i += 1;
     }
-    i
+    gone.len()
 }
 
 // Puts a stamp at the place of each withdrawn number, where n places from `at` on stand for the numbers below n.
@@ -29,9 +27,7 @@ pub fn stamp(work: &mut [u16], at: usize, n: usize, gone: &[u16], mark: u16)
     requires gone_below { (z : ℕ) → In z gone.now → z < n }
     ensures { Stamped work.old work.new at n gone.now mark }
 {
-    let mut k = 0;
-    while k < gone.len() {
-        work[at + gone[k] as usize] = mark;
-        k += 1;
+    for &zone in gone {
+        work[at + usize::from(zone)] = mark;
     }
 }
