@@ -3,39 +3,26 @@
 
 ghost use Rattle.std.specs.Prelude.{◌≤◌, ◌<◌, ◌≡◌, length, IfOk, OnErr};
 
-use printing::put;
-use std::io;
+use std::{array, io};
 
-// The lesser of two numbers.
-pub fn least(a: usize, b: usize) -> usize
-    ensures { (result ≤ a) × (result ≤ b) }
-{
-    if a < b { a } else { b }
-}
-
-// A number of 16 bits.
-pub fn wide(x: u16) -> usize {
-    x as usize
-}
+// How long the list of a row's numbers is: no row has more than 24.
+const LENGTH: usize = 25;
 
 // A number with one more digit, cut to 16 bits; the same number where the byte is no digit.
 fn longer(x: u16, byte: u8) -> u16 {
     match byte {
-        b'0'..=b'9' => ((x as usize * 10 + (byte % 16) as usize) % 65536) as u16,
+        b'0'..=b'9' => x.wrapping_mul(10).wrapping_add(u16::from(byte - b'0')),
         _ => x,
     }
 }
 
-// The index that a byte belongs to, after one of index k: a space begins the next number. No row has a hundred.
-fn index(k: usize, byte: u8) -> usize {
-    if byte == b' ' { k % 99 + 1 } else { k }
-}
-
-// Puts a byte behind number k.
-fn add(given: &mut [u16], k: usize, byte: u8) {
-    if k < given.len() {
-        given[k] = longer(given[k], byte);
-    }
+// Where a byte stands first from `from` on, or the text's end.
+fn find(text: &[u8], from: usize, byte: u8) -> usize
+    requires { from ≤ length text.now }
+    ensures { (from ≤ result) × (result ≤ length text.now) }
+{
+    let rest = &text[from..];
+    from + rest.iter().position(|b| *b == byte).unwrap_or(rest.len())
 }
 
 // Prints the label that starts at `from`, and answers where it ends.
@@ -43,15 +30,9 @@ fn label(rt: &impl Print, text: &[u8], from: usize) -> io::Result<usize>
     requires { from ≤ length text.now }
     ensures { IfOk result (λ end. (from ≤ end) × (end ≤ length text.now)) }
 {
-    let mut i = from;
-    while i < text.len() {
-        if text[i] == b':' {
-            return Ok(i);
-        }
-        put(rt, text[i])?;
-        i += 1;
-    }
-    Ok(i)
+    let end = find(text, from, b':');
+    rt.write_all(&text[from..end])?;
+    Ok(end)
 }
 
 // Puts the numbers that start at `from` into a list of zeros, from index 1 on, and answers where the next row starts.
@@ -59,17 +40,12 @@ fn numbers(text: &[u8], from: usize, given: &mut [u16]) -> usize
     requires { from ≤ length text.now }
     ensures { from < result }
 {
-    let mut k = 0;
-    let mut i = from;
-    while i < text.len() {
-        if text[i] == b';' {
-            return i + 1;
-        }
-        k = index(k, text[i]);
-        add(given, k, text[i]);
-        i += 1;
+    let end = find(text, from, b';');
+    let words = text[from..end].split(|b| *b == b' ');
+    for (number, word) in given.iter_mut().zip(words) {
+        *number = word.iter().fold(0, |x, byte| longer(x, *byte));
     }
-    i + 1
+    end + 1
 }
 
 // Prints the label of the row that starts at `from`, puts its numbers into a list of zeros, from index 1 on, and
@@ -82,36 +58,40 @@ pub fn row(rt: &impl Print, text: &[u8], from: usize, given: &mut [u16]) -> io::
     Ok(numbers(text, label(rt, text, from)?, given))
 }
 
+// Runs all rows of a text: prints each row's label, and hands its numbers to `run`, from index 1 on.
+pub fn rows<F: Fn(&[u16]) -> io::Result<()>>(rt: &impl Print, text: &[u8], run: F) -> io::Result<()>
+    requires { F.IsAlwaysCallable run }
+{
+    let mut from = 0;
+    // Kept (3): where a row starts is known only when the one before it is read.
+    while from < text.len() {
+        let mut given = [0; LENGTH];
+        from = row(rt, text, from, &mut given)?;
+        run(&given)?;
+    }
+    Ok(())
+}
+
 // The number of index k, and 0 past the end.
 pub fn at(given: &[u16], k: usize) -> usize {
-    if k < given.len() { wide(given[k]) } else { 0 }
+    given.get(k).map_or(0, |x| usize::from(*x))
 }
 
 // The n numbers from index `from` on, or all where there are fewer.
-pub fn part<'a>(given: &'a [u16], from: usize, n: usize) -> &'a [u16] {
-    if from <= given.len() {
-        if n <= given.len() - from {
-            return &given[from..from + n];
-        }
+pub fn part(given: &[u16], from: usize, n: usize) -> &[u16] {
+    match given.get(from..) {
+        Some(rest) if n <= rest.len() => &rest[..n],
+        _ => given,
     }
-    given
 }
 
 // The first n elements of a list to be lent, or all where it has fewer.
-pub fn front<'a>(list: &'a mut [u16], n: usize) -> &'a mut [u16] {
-    if n <= list.len() {
-        return &mut list[0..n];
-    }
-    list
+pub fn front(list: &mut [u16], n: usize) -> &mut [u16] {
+    let n = n.min(list.len());
+    &mut list[..n]
 }
 
 // Twelve numbers as bytes, with zeros past the end.
 pub fn bytes(given: &[u16]) -> [u8; 12] {
-    let mut out = [0u8; 12];
-    let mut i = 0;
-    while i < 12 {
-        out[i] = (at(given, i) % 256) as u8;
-        i += 1;
-    }
-    out
+    array::from_fn(|i| (at(given, i) % 256) as u8)
 }

@@ -1,9 +1,0 @@
--- `runtable::bytes` is safe and ends. The loop's invariant: the index stays within the list. Assumes nothing.
-use Rattle.std.proofs.Common.{◌-◌, ◌≤◌}
-use Rattle.runtable.proofs.bytes.Given as goal
-
-abbrev pub invariant-loop-i : goal.invariant-loop-i
-invariant-loop-i l = l.i ≤ 12
-
-abbrev pub decreases-loop-i : goal.decreases-loop-i
-decreases-loop-i l = 12 - l.i
