@@ -1,160 +1,154 @@
 // What came out of a call, in the terms of the table's rows.
-use super::lent;
-use super::lent::Kept;
-use rules::{PlanAnswer, ReachAnswer, Trouble, trouble_number};
+use rules::{PlanCounts, Trouble};
+use std::{array, fmt};
 
-// An outcome: what came, as a row says what is asked for (0 a plan, 1 a skeleton, 2 a refusal, 4 an answered question),
-// or 3, a network that was read, which no row wants; the answer's numbers; how many links or bytes were put, or zones
-// asked about; those, each as one number, and zeros after them; and whether all other lent memory is as it has to be.
-#[derive(Clone, Copy)]
+// What came: a plan, a skeleton, a network that was read, which no row wants, a refusal, or a question that was
+// answered or refused.
+#[derive(Clone, Copy, PartialEq)]
+pub enum Came {
+    Plan,
+    Skeleton,
+    Network,
+    Refusal,
+    Question,
+}
+
+// An outcome: what came; the answer's numbers; how many links or bytes were put, or zones asked about; those, each as
+// one number, and zeros after them; and whether all other lent memory is as it has to be.
+// Kept (6): a count may be wrong, and is compared with the row's.
+#[derive(Clone, Copy, PartialEq)]
 pub struct Outcome {
-    pub came: u16,
+    pub came: Came,
     pub told: [u16; 5],
     pub count: usize,
     pub made: [u16; 10],
     pub kept: bool,
 }
 
-// Links as three lists.
-#[derive(Drop)]
-pub struct Columns {
-    pub from: [u16; 10],
-    pub to: [u16; 10],
-    pub why: [u16; 10],
-}
-
 // A number in 16 bits: the largest of these where it has more.
 pub fn narrow(n: usize) -> u16 {
-    if n < 65535 { n as u16 } else { 65535 }
+    u16::try_from(n).unwrap_or(u16::MAX)
 }
 
-// A refusal, with its number and its place.
+// The numbers of a refusal: its number and its place.
+fn told(t: Trouble) -> [u16; 5] {
+    [narrow(usize::from(t.kind)), narrow(t.place), 0, 0, 0]
+}
+
+// A refusal.
 pub fn refused(t: Trouble, kept: bool) -> Outcome {
-    let kind = t.kind;
-    let place = t.place;
     Outcome {
-        came: 2,
-        told: [narrow(trouble_number(kind)), narrow(place), 0, 0, 0],
+        came: Came::Refusal,
+        told: told(t),
         count: 0,
         made: [0; 10],
-        kept: kept,
+        kept,
     }
 }
 
-// A link as one number, 0x150 for the chain link from 5 to 0; 65535 where it has none.
-fn code(from: u16, to: u16, why: u16) -> u16 {
-    if 15 < from {
-        return 65535;
+// A link, which is from, to and why, as one number, 0x150 for the chain link from 5 to 0; 65535 where it has none.
+fn code([from, to, why]: [u16; 3]) -> u16 {
+    if from.max(to).max(why) < 16 {
+        why * 256 + from * 16 + to
+    } else {
+        u16::MAX
     }
-    if 15 < to {
-        return 65535;
-    }
-    if 15 < why {
-        return 65535;
-    }
-    why * 256 + from * 16 + to
 }
 
-// The first n links, each as one number, and zeros after them.
-fn codes(from: [u16; 10], to: [u16; 10], why: [u16; 10], n: usize) -> [u16; 10] {
-    let mut out = [0; 10];
-    let mut i = 0;
-    while i < 10 {
-        if i < n {
-            out[i] = code(from[i], to[i], why[i]);
-        }
-        i += 1;
-    }
-    out
-}
-
-// Whether the columns past the first n links are as they came.
-fn untouched(c: Columns, n: usize, why: u16) -> bool {
-    let starts = c.from;
-    let ends = c.to;
-    let whys = c.why;
-    if lent::holds(&starts, n, 10, lent::UNSET) {
-        if lent::holds(&ends, n, 10, lent::UNSET) {
-            return lent::holds(&whys, n, 10, why);
-        }
-    }
-    false
-}
-
-// A plan: its answer, the lent lists or records as columns, what a why was before, and how the work memory is kept.
-pub fn planned(answer: PlanAnswer, c: Columns, why: u16, kept: Kept) -> Outcome {
+// A plan: its answer, the lent lists or records as links, what a link was before, and whether the work memory is kept.
+pub fn planned(
+    answer: Result<PlanCounts, Trouble>,
+    links: [[u16; 3]; 10],
+    unset: [u16; 3],
+    kept: bool,
+) -> Outcome {
+    let put = answer.map_or(0, |counts| counts.need);
+    let kept = kept && links.iter().skip(put).all(|link| *link == unset);
     match answer {
-        PlanAnswer::Done {
-            sources,
-            sinks,
-            alone,
-            pairs,
-            need,
-        } => {
-            let from = c.from;
-            let to = c.to;
-            let whys = c.why;
-            let rest = untouched(c, need, why);
-            Outcome {
-                came: 0,
-                told: [
-                    narrow(sources),
-                    narrow(sinks),
-                    narrow(alone),
-                    narrow(pairs),
-                    narrow(need),
-                ],
-                count: need,
-                made: codes(from, to, whys, need),
-                kept: kept.cleared && rest,
-            }
-        }
-        PlanAnswer::Refused(t) => {
-            let rest = untouched(c, 0, why);
-            refused(t, kept.whole && rest)
-        }
-    }
-}
-
-// An answered or refused question about two zones, and how the work memory is kept: the number, the place, and 1 for
-// yes.
-pub fn questioned(answer: ReachAnswer, from: u16, to: u16, kept: Kept) -> Outcome {
-    match answer {
-        ReachAnswer::Done { yes } => Outcome {
-            came: 4,
-            told: [0, 0, if yes { 1 } else { 0 }, 0, 0],
-            count: 2,
-            made: [from, to, 0, 0, 0, 0, 0, 0, 0, 0],
-            kept: kept.cleared,
+        Ok(c) => Outcome {
+            came: Came::Plan,
+            told: [c.sources, c.sinks, c.alone, c.pairs, c.need].map(narrow),
+            count: put,
+            made: array::from_fn(|i| if i < put { code(links[i]) } else { 0 }),
+            kept,
         },
-        ReachAnswer::Refused(t) => {
-            let told = refused(t, kept.whole).told;
-            Outcome {
-                came: 4,
-                told: told,
-                count: 2,
-                made: [from, to, 0, 0, 0, 0, 0, 0, 0, 0],
-                kept: kept.whole,
-            }
-        }
+        Err(t) => refused(t, kept),
     }
 }
 
-// Whether an outcome is what a row wants.
-pub fn wanted(o: Outcome, head: [u16; 10], made: [u16; 10]) -> bool {
-    let came = if head[1] == 3 { 2 } else { head[1] };
-    if o.came != came {
-        return false;
+// An answered or refused question about two zones, and whether the work memory is kept: the number, the place, and 1
+// for yes.
+pub fn questioned(answer: Result<bool, Trouble>, from: u16, to: u16, kept: bool) -> Outcome {
+    Outcome {
+        came: Came::Question,
+        told: match answer {
+            Ok(yes) => [0, 0, u16::from(yes), 0, 0],
+            Err(t) => told(t),
+        },
+        count: 2,
+        made: [from, to, 0, 0, 0, 0, 0, 0, 0, 0],
+        kept,
     }
-    if o.count != head[4] as usize {
-        return false;
+}
+
+// Numbers, each after a space.
+fn list<W: fmt::Write>(f: &mut fmt::Formatter<W>, xs: &[u16]) -> fmt::Result {
+    for x in xs {
+        write!(f, " {x}")?;
     }
-    let told = o.told;
-    let put = o.made;
-    if lent::same(&told, &head[5..]) {
-        if lent::same(&put, &made) {
-            return o.kept;
+    Ok(())
+}
+
+// A link that is one number.
+fn link<W: fmt::Write>(f: &mut fmt::Formatter<W>, x: u16) -> fmt::Result {
+    // Kept (1): a link that differs from the table may have any number here, and a `Why` has three.
+    let why = match x / 256 {
+        0 => "ring",
+        1 => "chain",
+        2 => "back",
+        _ => "unknown",
+    };
+    write!(f, " {}-{} {why},", x / 16 % 16, x % 16)
+}
+
+// The links.
+fn links<W: fmt::Write>(f: &mut fmt::Formatter<W>, links: &[u16]) -> fmt::Result {
+    if links.is_empty() {
+        return write!(f, " no links,");
+    }
+    for x in links {
+        link(f, *x)?;
+    }
+    Ok(())
+}
+
+// A plan's s, t, q, p and the number of links, and the links; a skeleton's arc count, and the bytes of its file; a
+// refusal's number and place; a question's two zones, and the answer or the refusal.
+impl fmt::Display for Outcome {
+    fn fmt<W: fmt::Write>(&self, f: &mut fmt::Formatter<W>) -> fmt::Result {
+        let put = &self.made[..self.count.min(10)];
+        let [number, place, yes, ..] = self.told;
+        match self.came {
+            Came::Plan => {
+                list(f, &self.told)?;
+                write!(f, ":")?;
+                links(f, put)
+            }
+            Came::Skeleton => {
+                write!(f, " {number}:")?;
+                list(f, put)?;
+                write!(f, ",")
+            }
+            Came::Network => write!(f, " accepted,"),
+            Came::Refusal => write!(f, " refused {number} at {place},"),
+            Came::Question => {
+                list(f, put)?;
+                match (number, yes) {
+                    (0, 1) => write!(f, ": yes,"),
+                    (0, _) => write!(f, ": no,"),
+                    _ => write!(f, ": refused {number} at {place},"),
+                }
+            }
         }
     }
-    false
 }
