@@ -17,12 +17,10 @@ pub fn arcs_length(tails: &[u16], heads: &[u16]) -> usize
     ensures { result ≡ length (arcs_bytes (arcs_of tails.now heads.now)) }
 {
     let mut total = 0;
-    let mut i = 0;
-    while i < tails.len() {
-        let t = number_length(tails[i] as usize);
-        let h = number_length(heads[i] as usize);
+    for (&tail, &head) in tails.iter().zip(heads) {
+        let t = number_length(usize::from(tail));
+        let h = number_length(usize::from(head));
         total += t + h;
-        i += 1;
     }
     total
 }
@@ -35,11 +33,9 @@ fn write_arcs(file: &mut [u8], from: usize, tails: &[u16], heads: &[u16])
         ≡ sets file.old from (arcs_bytes (arcs_of tails.now heads.now)) }
 {
     let mut at = from;
-    let mut i = 0;
-    while i < tails.len() {
-        let mid = write_number(file, at, tails[i] as usize);
-        at = write_number(file, mid, heads[i] as usize);
-        i += 1;
+    for (&tail, &head) in tails.iter().zip(heads) {
+        let mid = write_number(file, at, usize::from(tail));
+        at = write_number(file, mid, usize::from(head));
     }
 }
 
