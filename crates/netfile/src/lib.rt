@@ -11,53 +11,30 @@ use filebody::body;
 use filebytes::{arcs_length, write_file};
 use filecounts::{arc_count, zone_count};
 use filegroups::number_length;
-use filenumbers::NumberRead;
-use probes::Tested;
-use rules::{ReadAnswer, WriteAnswer};
+use intake::network;
+use probes::room;
+use rules::{FileCounts, NetworkLists, Trouble};
 
 // Reading a network file into two lent lists: the two counts, or the first trouble from left to right.
-pub fn read(file: &[u8], tails: &mut [u16], heads: &mut [u16]) -> ReadAnswer
+pub fn read(file: &[u8], tails: &mut [u16], heads: &mut [u16]) -> Result<FileCounts, Trouble>
     ensures { ReadPromise file.now tails.old heads.old
         tails.new heads.new (read_told result) }
 {
-    match zone_count(file) {
-        NumberRead::Refused(t) => {
-            return ReadAnswer::Refused(t);
-        }
-        NumberRead::Number(zones, next) => match arc_count(file, next, tails.len(), heads.len()) {
-            NumberRead::Refused(t) => {
-                return ReadAnswer::Refused(t);
-            }
-            NumberRead::Number(arcs, from) => {
-                return body(file, from, zones, arcs, tails, heads);
-            }
-        },
-    }
+    let (zones, next) = zone_count(file)?;
+    let (arcs, from) = arc_count(file, next, tails.len(), heads.len())?;
+    body(file, from, zones, arcs, tails, heads)
 }
 
 // Writing a network into a lent list of bytes: the file's length, or the first trouble. Nothing is put in before the
 // network, with its withdrawn numbers, and the room for it are found good. The file holds no withdrawn numbers.
-pub fn write(
-    zones: usize,
-    tails: &[u16],
-    heads: &[u16],
-    gone: &[u16],
-    file: &mut [u8],
-) -> WriteAnswer
-    ensures { WritePromise zones tails.now heads.now gone.now
+pub fn write(net: NetworkLists<'_>, file: &mut [u8]) -> Result<usize, Trouble>
+    ensures { WritePromise net.entry.zones net.entry.tails.now net.entry.heads.now net.entry.gone.now
         file.old file.new (write_told result) }
 {
-    let taken = intake::network(zones, tails, heads, gone);
-    let found = taken.found;
-    if let Tested::Refused(t) = found {
-        return WriteAnswer::Refused(t);
-    }
-    let counts = number_length(zones) + number_length(tails.len());
-    let length = counts + arcs_length(tails, heads);
-    let roomy = probes::room(Tested::Fine, length, file.len());
-    if let Tested::Refused(t) = roomy {
-        return WriteAnswer::Refused(t);
-    }
-    write_file(zones, tails, heads, file);
-    WriteAnswer::Done { length }
+    network(net)?;
+    let counts = number_length(net.zones) + number_length(net.tails.len());
+    let length = counts + arcs_length(net.tails, net.heads);
+    room(length, file.len())?;
+    write_file(net.zones, net.tails, net.heads, file);
+    Ok(length)
 }
