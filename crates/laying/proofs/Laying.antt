@@ -31,7 +31,7 @@ use Rattle.connect.specs.declared.Connection.{Connection}
 use Rattle.connect.specs.Connect.{Connectable, Connected}
 use Rattle.theory.proofs.Planning.Few.{kinds_few, need_few, zones_few, sum_strong, sum_weak}
 use Rattle.survey.specs.Survey.{Surveyed}
-use Rattle.laying.specs.Layout.{layout_of, LaidOut}
+use Rattle.laying.specs.Layout.{counts_with, LaidOut}
 use Rattle.laying.proofs.Upright.{upright_weak, upright_sources, upright_sinks, upright_alone}
 use Rattle.laying.proofs.Upright.{upright_links, pairs_few}
 
@@ -41,11 +41,10 @@ unfolding plan_pairs
 pairs_are N = refl
 
 module _
-    (m : Map)
-    (ts hs gone w : List ℕ)
+    {m : Map}
+    {ts hs gone w w₁ : List ℕ}
+    {k : Counts}
     (A : ReadyWith m ts hs gone w)
-    (w₁ : List ℕ)
-    (k : Counts)
     (S : Surveyed w w₁ m (handed_with m.zones ts hs gone) k)
   where
     -- the network of the zones that remain
@@ -81,7 +80,7 @@ module _
     -- a memory in which the plan's links stand
     laid_by : (w₂ : List ℕ) (c : Connection) → c.pairs ≡ plan_pairs N → c.need ≡ length (plan N) →
         Columns w₂ m.links (plan N) → length w₂ ≡ length w₁ →
-        drop m.rows.starts w₂ ≡ drop m.rows.starts w₁ → LaidOut w w₂ m N (layout_of k c)
+        drop m.rows.starts w₂ ≡ drop m.rows.starts w₁ → LaidOut w w₂ m N (counts_with k c)
     laid_by w₂ c pairs count columns long back =
         let p = placed A.ready.map in
         let need : c.need ≡ plan_need N = count ∙ plan_length proper in
@@ -102,9 +101,9 @@ module _
         }
 
     -- a strong network has no link
-    pub laid_strong : k.sources + k.sinks + k.alone ≡ 1 → (c : Connection) → c.pairs ≡ 0 → c.need ≡ 0 →
-        LaidOut w w₁ m N (layout_of k c)
-    laid_strong e c pairs need =
+    pub laid_strong : k.sources + k.sinks + k.alone ≡ 1 → {c : Connection} → c.pairs ≡ 0 → c.need ≡ 0 →
+        LaidOut w w₁ m N (counts_with k c)
+    laid_strong e {c} pairs need =
         let is : strong N ≡ true = sum_strong proper (omega (arith, S.sources_are, S.sinks_are, S.alone_are)) in
         let none : length (sources N) ≡ 0 = ap length (strong_kinds proper (strong_sound N is) zone.1).0 in
         let empty : plan N ≡ [] = plan_of_strong N is in
@@ -113,8 +112,8 @@ module _
 
     -- s + t + q is another number, and a side is picked
     module _
+        {d : Side}
         (other : k.sources + k.sinks + k.alone ≡ 1 → ⊥)
-        (d : Side)
         (D : RuleSide m k.sources k.sinks d)
       where
         -- the network is not strong
@@ -122,9 +121,9 @@ module _
         weak = sum_weak proper zone.1 (λ e. other (omega (arith, S.sources_are, S.sinks_are, S.alone_are)))
 
         -- the rule may run on the side
-        pub rule_able : (s t : ℕ) → s ≡ min k.sources k.sinks → t ≡ max k.sources k.sinks →
+        pub rule_able : {s t : ℕ} → s ≡ min k.sources k.sinks → t ≡ max k.sources k.sinks →
             Connectable w₁ d s t k.alone (upright N)
-        rule_able s t es et =
+        rule_able es et =
             let a = S.sources_are in
             let b = S.sinks_are in
             record {
@@ -139,9 +138,9 @@ module _
             }
 
         -- and what it leaves is the plan
-        pub rule_laid : (w₂ : List ℕ) (c : Connection) → Connected w₁ w₂ d (upright N) c →
-            LaidOut w w₂ m N (layout_of k c)
-        rule_laid w₂ c C =
+        pub rule_laid : {w₂ : List ℕ} {c : Connection} → Connected w₁ w₂ d (upright N) c →
+            LaidOut w w₂ m N (counts_with k c)
+        rule_laid {w₂} {c} C =
             laid_by w₂ c (C.pairs ∙ sym (pairs_are N)) (C.need ∙ upright_links proper weak)
             (D.links w₂ N weak S.sources_are S.sinks_are C.columns) C.long
             (drop_deeper w₁ w₂ (d.links.why + d.rows.zones) m.rows.starts D.below C.back)

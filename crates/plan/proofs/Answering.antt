@@ -1,22 +1,20 @@
 -- What PLAN gives back, from what its tests say and from what stands in the work memory.
 --   Plannable           the input passes the tests, and each lent list is as long as asked
 --   tests_plannable     no trouble: the input is so
---   plan_refused        a trouble is refused, and changes nothing
 --   plan_done           the plan is copied out, and the work memory cleared
 -- Assumes nothing.
-use mathlib.Core.Path.{◌≡◌, refl, sym, ap, ◌∙◌}
+use mathlib.Core.Path.{◌≡◌, sym, ap, ◌∙◌}
 use mathlib.Core.List.{List, [], ◌∷◌, map}
-use mathlib.Core.Option.{none, some}
+use mathlib.Core.Option.{none}
 use Prim.Native.Nat.{ℕ, ◌≤◌}
 use lib.Dec.{ltb}
 use lib.ListN.{length, length-map}
 use borrow.Author.Tests.{ltb-false}
-use Rattle.rules.specs.declared.Trouble.{Trouble}
-use Rattle.rules.specs.declared.PlanAnswer.{PlanAnswer}
+use Rattle.rules.specs.declared.PlanCounts.{PlanCounts}
 use Rattle.rules.specs.Lists.{over, cleared}
-use Rattle.rules.specs.Network.{Network}
 use Rattle.rules.specs.Plan.{Link, why_number, plan}
 use Rattle.rules.specs.Answers.{plan_told}
+use Rattle.std.specs.Prelude.{Ok}
 use Rattle.rules.specs.Calls.{network_tests, room_test, asked_work, handed_with, plan_trouble}
 use Rattle.rules.specs.Promises.{PlanPromise}
 use Rattle.memory.specs.Regions.{part, Holds}
@@ -26,9 +24,9 @@ use Rattle.workmap.specs.Map.{map_of}
 use Rattle.memory.proofs.Cleared.{cleared_back}
 use Rattle.withdrawn.specs.Withdrawn.{ReadyWith}
 use Rattle.withdrawn.proofs.Readying.{tests_ready}
-use Rattle.figures.specs.declared.Layout.{Layout}
-use Rattle.figures.specs.Figures.{Figures, Carried}
+use Rattle.handout.specs.Handout.{HandedOut}
 use Rattle.laying.specs.Layout.{LaidOut}
+use Rattle.laying.proofs.Carrying.{carried}
 
 -- the input passes the tests, and each lent list is as long as asked
 pub record Plannable (n : ℕ) (ts hs gone from to why w : List ℕ) : Type 0 where
@@ -42,7 +40,7 @@ part_is : (f : Link → ℕ) (ls : List Link) (w : List ℕ) (at m : ℕ) → m 
     part w at m ≡ map f ls
 part_is f ls w at m e h = ap (λ (k : ℕ). part w at k) (e ∙ sym (length-map ls f)) ∙ h
 
-module _ (n : ℕ) (ts hs gone from to why w : List ℕ) where
+module _ {n : ℕ} {ts hs gone from to why w : List ℕ} where
   -- without a trouble the input passes the tests
   pub tests_plannable : plan_trouble n ts hs gone from to why w ≡ none → Plannable n ts hs gone from to why w
   unfolding plan_trouble
@@ -68,46 +66,33 @@ module _ (n : ℕ) (ts hs gone from to why w : List ℕ) where
         why_room = ltb-false (length why) n d.0;
       }
 
-  -- PLAN refuses
-  pub plan_refused : (t : Trouble) → plan_trouble n ts hs gone from to why w ≡ some t →
-      PlanPromise n ts hs gone from to why w from to why w (plan_told (PlanAnswer.Refused t))
-  plan_refused t e =
-      record {
-        told_is = rw e refl;
-        from_left = rw e refl;
-        to_left = rw e refl;
-        why_left = rw e refl;
-        work_left = rw e refl;
-      }
-
   -- PLAN answers
-  pub plan_done : (m : Map) (w₁ from' to' why' w' : List ℕ) (l : Layout) (r : PlanAnswer) →
+  pub plan_done : {m : Map} {w₁ from' to' why' w' : List ℕ} {l : PlanCounts} →
       m ≡ map_of n (length ts) → plan_trouble n ts hs gone from to why w ≡ none →
       LaidOut w w₁ m (handed_with m.zones ts hs gone) l →
-      ((N : Network) → Figures N l → Carried N r) → from' ≡ over (part w₁ m.links.from l.need) from →
-      to' ≡ over (part w₁ m.links.to l.need) to → why' ≡ over (part w₁ m.links.why l.need) why →
-      w' ≡ cleared m.asked w₁ → PlanPromise n ts hs gone from to why w from' to' why' w' (plan_told r)
-  plan_done m w₁ from' to' why' w' l r made e D says f t y c =
+      HandedOut w₁ m.links l.need from to why from' to' why' →
+      w' ≡ cleared m.asked w₁ → PlanPromise n ts hs gone from to why w from' to' why' w' (plan_told (Ok l))
+  plan_done {m} {w₁} {l = l} made e D H c =
       let L : LaidOut w w₁ (map_of n (length ts)) (handed_with n ts hs gone) l = rw made at D in
       let ls : List Link = plan (handed_with n ts hs gone) in
       let asked : m.asked ≡ asked_work n (length ts) = ap (λ (x : Map). x.asked) made in
       record {
-        told_is = rw e (says (handed_with n ts hs gone) L.figures);
+        told_is = rw e (carried L.figures);
         from_left =
             rw e
-            (f
+            (H.starts_out
             ∙ ap (λ (xs : List ℕ). over xs from)
             (part_is (λ (x : Link). x.start) ls w₁ m.links.from l.need L.links_are
             (rw made L.columns.starts_held)));
         to_left =
             rw e
-            (t
+            (H.ends_out
             ∙ ap (λ (xs : List ℕ). over xs to)
             (part_is (λ (x : Link). x.end) ls w₁ m.links.to l.need L.links_are
             (rw made L.columns.ends_held)));
         why_left =
             rw e
-            (y
+            (H.whys_out
             ∙ ap (λ (xs : List ℕ). over xs why)
             (part_is (λ (x : Link). why_number x.why) ls w₁ m.links.why l.need L.links_are
             (rw made L.columns.whys_held)));

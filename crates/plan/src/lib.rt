@@ -5,36 +5,28 @@
 ghost use Rattle.rules.specs.Answers.{plan_told};
 ghost use Rattle.rules.specs.Promises.{PlanPromise};
 
-use figures::answer_of;
 use handout::hand_out;
 use laying::lay;
 use memory::clear;
-use probes::Tested;
-use rules::PlanAnswer;
+use rules::{NetworkLists, PlanCounts, Trouble};
 use workmap::map_of;
 
 // PLAN: the links' starts go to `from`, their ends to `to`, and the numbers of their whys to `why`.
 pub fn plan(
-    zones: usize,
-    tails: &[u16],
-    heads: &[u16],
-    gone: &[u16],
+    net: NetworkLists<'_>,
     from: &mut [u16],
     to: &mut [u16],
     why: &mut [u16],
     work: &mut [u16],
-) -> PlanAnswer
-    ensures { PlanPromise zones tails.now heads.now gone.now
+) -> Result<PlanCounts, Trouble>
+    ensures { PlanPromise net.entry.zones net.entry.tails.now net.entry.heads.now net.entry.gone.now
         from.old to.old why.old work.old from.new
         to.new why.new work.new (plan_told result) }
 {
-    let t = admission::plan(zones, tails, heads, gone, from, to, why, work);
-    if let Tested::Refused(trouble) = t {
-        return PlanAnswer::Refused(trouble);
-    }
-    let m = map_of(zones, tails.len());
-    let r = lay(m, tails, heads, gone, work);
-    hand_out(work, m.links, r.need, from, to, why);
+    admission::plan(net, from, to, why, work)?;
+    let m = map_of(net.zones, net.tails.len());
+    let counts = lay(m, net, work);
+    hand_out(work, m.links, counts.need, from, to, why);
     clear(work, m.asked);
-    answer_of(r)
+    Ok(counts)
 }

@@ -32,10 +32,9 @@ use Rattle.sides.proofs.Turning.{handed_turned}
 use Rattle.survey.specs.Survey.{Surveyed}
 
 module _
-    (m : Map)
-    (ts hs gone w : List ℕ)
+    {m : Map}
+    {ts hs gone w w₁ : List ℕ}
     (G : ReadyWith m ts hs gone w)
-    (w₁ : List ℕ)
     (R : Readied w w₁ m ts hs)
   where
     -- what was asked, the withdrawn numbers apart
@@ -82,7 +81,7 @@ module _
         }
 
     -- the components are named in w₂
-    module _ (w₂ : List ℕ) (c : ℕ) (C : Components w₁ w₂ m (network_of m.zones (arcs_of ts hs)) c) where
+    module _ {w₂ : List ℕ} {c : ℕ} (C : Components w₁ w₂ m (network_of m.zones (arcs_of ts hs)) c) where
       -- what lies before the names is zero
       zero_before : (i : ℕ) → i < m.names.tops → get_or w₂ i 0 ≡ 0
       zero_before i l =
@@ -116,11 +115,11 @@ module _
           }
 
       -- the rows stand, and the names of each kind
-      pub surveyed : (w₃ : List ℕ) (r : Counts) →
+      pub surveyed : {w₃ : List ℕ} {r : Counts} →
           Listed m.kinds m.lists (network_with m.kinds.zones (arcs_of ts hs) gone) r w₂ w₃ →
           Surveyed w w₃ m N r
       unfolding handed_with
-      surveyed w₃ r K =
+      surveyed {w₃} {r} K =
           let p = placed A.map in
           let k = kinds_placed A.map in
           let l = lists_placed A.map in

@@ -9,15 +9,16 @@ ghost use Rattle.survey.specs.Survey.{Surveyed};
 use arranged::ready;
 use components::name_all;
 use kinds::{Counts, list_kinds};
+use rules::NetworkLists;
 use workmap::Map;
 
 // Arranges the rows both ways, names the components, lists the names of each kind, and answers how many there are.
-pub fn survey(m: Map, tails: &[u16], heads: &[u16], gone: &[u16], work: &mut [u16]) -> Counts
-    requires { ReadyWith m tails.now heads.now gone.now work.old }
+pub fn survey(m: Map, net: NetworkLists<'_>, work: &mut [u16]) -> Counts
+    requires { ReadyWith m net.tails.now net.heads.now net.gone.now work.old }
     ensures { Surveyed work.old work.new m
-        (handed_with m.zones tails.now heads.now gone.now) result }
+        (handed_with m.zones net.entry.tails.now net.entry.heads.now net.entry.gone.now) result }
 {
-    ready(m, tails, heads, work);
+    ready(m, net.tails, net.heads, work);
     name_all(work, m);
-    list_kinds(m.kinds, m.lists, tails, heads, gone, work)
+    list_kinds(m.kinds, m.lists, net.tails, net.heads, net.gone, work)
 }

@@ -2,15 +2,14 @@
 --   Figures N l   l has the numbers of the plan of N: s, t, q, p and the number of links
 --   Carried N r   the answer r carries them
 use Rattle.std.specs.Prelude.{◌≡◌, length}
-use Rattle.rules.specs.declared.PlanAnswer.{PlanAnswer}
-use Rattle.rules.specs.Answers.{done, plan_told}
+use Rattle.rules.specs.declared.PlanCounts.{PlanCounts}
+use Rattle.rules.specs.Answers.{done, PlanAnswer, plan_told}
 use Rattle.rules.specs.Network.{Network}
 use Rattle.rules.specs.Components.{sources, sinks, alone}
 use Rattle.rules.specs.Plan.{plan_pairs, plan_need, plan_values}
-use Rattle.figures.specs.declared.Layout.{Layout}
 
 -- l has the numbers of the plan of N
-pub record Figures (N : Network) (l : Layout) : Type 0 where
+pub record Figures (N : Network) (l : PlanCounts) : Type 0 where
   pub sources_are : l.sources ≡ length (sources N)
   pub sinks_are : l.sinks ≡ length (sinks N)
   pub alone_are : l.alone ≡ length (alone N)

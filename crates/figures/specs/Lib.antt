@@ -1,2 +1,0 @@
--- What the numbers of a plan are.
-pub mod Figures
