@@ -3,17 +3,17 @@
 
 ghost use Rattle.std.specs.Prelude.{◌≤◌, ◌<◌, ◌≡◌, length, IfOk, OnErr};
 
-use std::{array, io};
+use std::{array, io, str};
 
 // How long the list of a row's numbers is: no row has more than 24.
 const LENGTH: usize = 25;
 
-// A number with one more digit, cut to 16 bits; the same number where the byte is no digit.
-fn longer(x: u16, byte: u8) -> u16 {
-    match byte {
-        b'0'..=b'9' => x.wrapping_mul(10).wrapping_add(u16::from(byte - b'0')),
-        _ => x,
-    }
+// The number that a word of a row is, and 0 where it is none.
+fn number(word: &[u8]) -> u16 {
+    str::from_utf8(word)
+        .ok()
+        .and_then(|text| text.parse().ok())
+        .unwrap_or(0)
 }
 
 // Where a byte stands first from `from` on, or the text's end.
@@ -42,8 +42,8 @@ fn numbers(text: &[u8], from: usize, given: &mut [u16]) -> usize
 {
     let end = find(text, from, b';');
     let words = text[from..end].split(|b| *b == b' ');
-    for (number, word) in given.iter_mut().zip(words) {
-        *number = word.iter().fold(0, |x, byte| longer(x, *byte));
+    for (place, word) in given.iter_mut().zip(words) {
+        *place = number(word);
     }
     end + 1
 }
