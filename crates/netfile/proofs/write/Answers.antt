@@ -31,7 +31,8 @@ fine c =
 
 -- So the three lengths are the file's.
 lengths : (c : After-arcs_length) → let n = c.args.net in
-    c.number_length.result + c.number_length-2.result + c.arcs_length.result ≡ length (written n.zones n.tails.now n.heads.now)
+    c.number_length.result + c.number_length-2.result + c.arcs_length.result
+    ≡ length (written n.zones n.tails.now n.heads.now)
 lengths c =
     let n = c.args.net in
     let passed = sym c.in_ok-network.ensures.found_by.first in
@@ -67,7 +68,7 @@ returns-in_err-room c =
     let n = c.args.net in
     let long = lengths (goal.at.returns-in_err-room c).After-arcs_length in
     let passed = c.in_ok-network.ensures.found_by.first in
-    let told = write_goes_on n.zones n.tails.now n.heads.now n.gone.now c.args.file.now passed long c.room.ensures.first in
+    let told = write_goes_on n.zones n.tails.now n.heads.now n.gone.now _ passed long c.room.ensures.first in
     let e : c.from_residual-in_err-room.result ≡ Err c.in_err-room.field-0.0 = grind (arith, common_steps) in
     rw e (write_bad _ _ _ _ _ _ (rw c.in_err-room.was at told))
 
@@ -81,7 +82,7 @@ write_file-requires-clause-has_room c =
     let n = c.args.net in
     let long = lengths (goal.at.write_file-requires-clause-has_room c).After-arcs_length in
     let passed = c.in_ok-network.ensures.found_by.first in
-    let told = write_goes_on n.zones n.tails.now n.heads.now n.gone.now c.args.file.now passed long c.room.ensures.first in
+    let told = write_goes_on n.zones n.tails.now n.heads.now n.gone.now _ passed long c.room.ensures.first in
     write_fits n.zones n.tails.now n.heads.now n.gone.now c.args.file.now (rw c.in_ok-room.was at told)
 
 pub returns : goal.returns
@@ -89,7 +90,7 @@ returns c =
     let n = c.args.net in
     let long = lengths (goal.at.returns c).After-arcs_length in
     let passed = c.in_ok-network.ensures.found_by.first in
-    let told = write_goes_on n.zones n.tails.now n.heads.now n.gone.now c.args.file.now passed long c.room.ensures.first in
+    let told = write_goes_on n.zones n.tails.now n.heads.now n.gone.now _ passed long c.room.ensures.first in
     write_done n.zones n.tails.now n.heads.now n.gone.now c.args.file.now _ _
     (rw c.in_ok-room.was at told)
     long
