@@ -8,6 +8,7 @@ ghost use Rattle.std.proofs.lemmas.List.Edits.{sets};
 ghost use Rattle.rules.specs.Number.{number_bytes};
 
 // How many bytes a number is written as.
+#[tactic(auto, using(crate::proofs::GroupCases::length_cases))]
 pub fn number_length(n: usize) -> usize
     ensures { result ≡ length (number_bytes n) }
 {
@@ -21,6 +22,7 @@ pub fn number_length(n: usize) -> usize
 }
 
 // Puts a number in at a place, and answers with the place after it.
+#[tactic(auto, using(crate::proofs::GroupCases::write_cases))]
 pub fn write_number(file: &mut [u8], at: usize, n: usize) -> usize
     requires { (n < 2097152) × (at + length (number_bytes n) ≤ length file.old) }
     ensures { (result ≡ at + length (number_bytes n))

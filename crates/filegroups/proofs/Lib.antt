@@ -1,0 +1,2 @@
+-- The laws that the proofs of a number's bytes cite.
+pub mod GroupCases
