@@ -1,24 +1,30 @@
 -- What searches from a zone that remains tell of the network.
+--   says_all          whether a zero stands among the marks says whether each zone has one
 --   swept             a search from a zone, and stamps, by which every zone is marked: it comes to all that remain
 --   joined_truth      a zone comes to all that remain along the rows and along the turned rows: the network is strong
 -- A network is strong exactly when one of its zones reaches every zone and every zone reaches it. The rows have all
 -- numbers; between zones that remain, reach is the same. Assumes nothing.
-use mathlib.Core.Path.{◌≡◌, ap, ◌∙◌}
+use mathlib.Core.Path.{◌≡◌, refl, sym, ap, ◌∙◌}
 use mathlib.Core.Logic.{inl, inr, ◌↔◌}
 use mathlib.Core.List.{List, Memᴰ as In}
-use mathlib.Core.Bool.{Bool, true, false, ◌&&◌}
+use mathlib.Core.Bool.{Bool, true, false, not, false≢true, ◌&&◌}
 use Prim.Native.Nat.{ℕ, ◌+◌, ◌≤◌, ◌<◌}
 use native.Mathlib.Omega.{arith}
+use lib.Dec.{eqb}
+use lib.ListN.{length}
+use borrow.Author.Tests.{eqb-true, eq-eqb}
+use Rattle.std.specs.List.{IsAnyAnswer}
 use Rattle.rules.specs.Lists.{listed}
 use Rattle.rules.specs.Network.{Network, Reach, remaining, strong}
 use Rattle.rules.specs.Calls.{arcs_of, handed, handed_with}
 use Rattle.theory.proofs.Files.Accepting.{Fine, FineWith, fine_with_bridge}
-use Rattle.theory.proofs.Ground.Bools.{bool_cases, bool_agree, and_true, true_and}
+use Rattle.theory.proofs.Ground.Bools.{bool_cases, bool_agree, true_not_false, and_true, true_and}
 use Rattle.theory.proofs.Withdrawn.Remaining.{remaining_in, in_remaining, strong_from}
 use Rattle.workmap.specs.declared.RowsAt.{RowsAt}
 use Rattle.workmap.specs.declared.SearchAt.{SearchAt}
 use Rattle.workmap.specs.declared.Map.{Map}
-use Rattle.memory.specs.Regions.{cell}
+use Rattle.memory.specs.Regions.{cell, part}
+use Rattle.memory.proofs.Regions.{part_at, part_long}
 use Rattle.arranged.specs.Rows.{Entry, Run, rows_of}
 use Rattle.arranged.specs.Marks.{Marked}
 use Rattle.arranged.specs.Arranged.{ArrangedAt}
@@ -32,6 +38,25 @@ use Rattle.withdrawn.specs.Withdrawn.{stamped, Stamped}
 use Rattle.reaching.proofs.Truth.{run_reaches, reaches_run}
 use Rattle.strength.specs.Marks.{SaysAll, Everywhere, Swept}
 use Rattle.strength.proofs.Memory.{stamped_kept}
+
+-- whether a zero stands among the marks says whether each zone has a mark
+pub says_all : (w : List ℕ) (marks n : ℕ) (r : Bool) → marks + n ≤ length w →
+    IsAnyAnswer (λ y b. eqb y 0 ≡ b) (part w marks n) r → SaysAll w marks n (not r)
+says_all w marks n true fits some =
+    let inside : some.0 < n = omega (arith, some.1, part_long w marks n (omega arith)) in
+    record {
+      yes = λ e. absurd (false≢true e);
+      no = λ all. absurd (all some.0 inside (sym (part_at w marks n some.0 inside) ∙ eqb-true _ 0 (some.2 0)));
+    }
+says_all w marks n false fits none =
+    record {
+      yes =
+          λ e v h z.
+          true_not_false
+          (eq-eqb _ 0 (part_at w marks n v h ∙ z))
+          (none v 0 (omega arith) (omega (arith, part_long w marks n (omega arith))));
+      no = λ all. refl;
+    }
 
 -- a search, stamps at the withdrawn zones, and whether every zone is marked then: this says whether the search came to
 -- every zone that is not withdrawn

@@ -5,11 +5,12 @@ use borrow.Author.Rules.{rules}
 use native.Mathlib.Omega.{arith}
 use Prim.Native.Nat.{ℕ, ◌+◌, ◌<◌}
 use mathlib.Core.Path.{◌≡◌, ◌∙◌}
-use mathlib.Core.Bool.{Bool}
+use mathlib.Core.Bool.{Bool, ◌&&◌}
 use mathlib.Core.List.{List, Memᴰ as In}
 use lib.ListN.{get_or}
 use Rattle.rules.specs.Lists.{cleared}
-use Rattle.rules.specs.Network.{remaining}
+use Rattle.rules.specs.Network.{remaining, strong}
+use Rattle.rules.specs.Calls.{handed_with}
 use Rattle.theory.proofs.Withdrawn.Remaining.{remaining_in}
 use Rattle.workmap.specs.declared.Map.{Map}
 use Rattle.workmap.proofs.Places.{placed, searches_placed}
@@ -20,6 +21,7 @@ use Rattle.search.specs.Marking.{Clear}
 use Rattle.search.proofs.Keeping.{kept_at}
 use Rattle.withdrawn.specs.Withdrawn.{ReadyWith, Lowest}
 use Rattle.withdrawn.proofs.Fronts.{lowest_remains}
+use Rattle.reaching.specs.Questions.{Answered}
 use Rattle.reaching.proofs.Memory.{rows_searchable}
 use Rattle.strength.specs.Marks.{Swept}
 use Rattle.strength.proofs.Memory.{kept_standing, turned_searchable}
@@ -71,6 +73,22 @@ module _ {m : Map} {ts hs gone w : List ℕ} (P : ReadyWith m ts hs gone w) wher
           let q = searches_placed P.ready.map in
           kept_at w₂ w₃ m.search.marks m.search.queue m.rows.zones D.kept (m.back.marks + v) (omega arith)
           ∙ zero_first (m.back.marks + v) (omega arith)
+
+      -- and with the second sweep, both answers together say whether the network is strong
+      joined_here : Lowest gone from → {back : Bool} {w₄ w₅ : List ℕ} → Swept w₃ w₄ m.turned m.back from gone back →
+          w₅ ≡ cleared m.asked w₄ → Answered (yes && back) (strong (handed_with m.zones ts hs gone)) m.asked w w₅
+      joined_here L {back} {w₄} E e =
+          let p = placed P.ready.map in
+          let q = searches_placed P.ready.map in
+          let after =
+          kept_standing m ts hs w P.ready w w₃ w₄ m.back.marks m.back.queue m.turned.zones (omega arith) E.kept
+          standing_here in
+          record {
+            answer =
+                joined_truth m.zones ts hs gone P.fine from (remains L) w w₂ w₃ w₃ w₄ m m.search m.back yes back
+                p.rows_zones p.turned_zones standing_first standing_here D E;
+            work = e ∙ cleared_back m.asked w w₄ after.beyond;
+          }
 
 pub lowest-from-requires : goal.lowest-from-requires
 lowest-from-requires c = c.requires.fine.ascending
@@ -130,29 +148,15 @@ clear-requires-2 c =
     let S = standing_here P c.clear.ensures c.both_ways.ensures c.sweep-there.ensures in
     omega (arith, P.ready.room, c.sweep-back.ensures.kept.long, S.long)
 
-pub returns : goal.returns
-returns c =
-    let a = c.args in
-    let P = c.requires in
-    let C = c.clear.ensures in
-    let B = c.both_ways.ensures in
-    let there = c.sweep-there in
-    let back = c.sweep-back in
-    let u = there.new.work in
-    let v = back.new.work in
-    let p = placed P.ready.map in
-    let q = searches_placed P.ready.map in
-    let S = standing_here P C B there.ensures in
-    let after =
-    kept_standing a.m a.tails.now a.heads.now a.work.now P.ready a.work.now
-    u v a.m.back.marks a.m.back.queue a.m.turned.zones (omega arith) back.ensures.kept S in
-    record {
-      answer =
-          c.both.ensures
-          ∙ joined_truth a.m.zones a.tails.now a.heads.now a.gone.now P.fine c.lowest-from.result
-          (remains P c.lowest-from.ensures) a.work.now
-          c.both_ways.new.work u u v a.m a.m.search a.m.back
-          there.result back.result p.rows_zones p.turned_zones (standing_first P C B) S
-          there.ensures back.ensures;
-      work = c.clear-2.ensures ∙ cleared_back a.m.asked a.work.now v after.beyond;
-    }
+pub returns-then-there : goal.returns-then-there
+returns-then-there c =
+    rw c.if-there.true
+    at (joined_here c.requires c.clear.ensures c.both_ways.ensures c.sweep-there.ensures c.lowest-from.ensures
+    c.sweep-back.ensures c.clear-2.ensures)
+
+pub returns-else-there : goal.returns-else-there
+returns-else-there c =
+    rw c.if-there.false
+    (rw c.if-there.false
+    at (joined_here c.requires c.clear.ensures c.both_ways.ensures c.sweep-there.ensures c.lowest-from.ensures
+    c.sweep-back.ensures c.clear-2.ensures))

@@ -1,7 +1,11 @@
--- `sweep` meets its contract: the marks stand where the search came, the withdrawn zones are stamped, and all are
--- looked at. Assumes nothing.
+-- `sweep` meets its contract: the marks stand where the search came, the withdrawn zones are stamped, and no
+-- mark is zero then. Assumes nothing.
 use native.Mathlib.Omega.{arith}
-use Rattle.strength.proofs.Truth.{swept}
+use mathlib.Core.Path.{◌≡◌}
+use mathlib.Core.Bool.{not}
+use Prim.Native.Nat.{◌+◌, ◌-◌, ◌≤◌}
+use lib.ListN.{length}
+use Rattle.strength.proofs.Truth.{says_all, swept}
 use Rattle.strength.proofs.sweep.Goals as goal
 
 pub search-requires : goal.search-requires
@@ -12,14 +16,16 @@ stamp-requires c =
     let laid = c.requires.able.laid in
     record { within = omega (arith, laid, c.search.ensures.kept.long); gone_below = c.requires.zones }
 
-pub all_marked-requires : goal.all_marked-requires
-all_marked-requires c =
-    let laid = c.requires.able.laid in
-    omega (arith, laid, c.search.ensures.kept.long, c.stamp.ensures.long)
-
 pub returns : goal.returns
 returns c =
     let a = c.args in
-    swept a.work.now c.search.new.work c.stamp.new.work a.rows a.at a.from a.gone.now
-    c.all_marked.result c.requires.able.laid.apart c.requires.clear c.search.ensures (omega arith)
-    c.stamp.ensures c.all_marked.ensures
+    let w = c.stamp.new.work in
+    let laid = c.requires.able.laid in
+    let n : a.at.marks + a.rows.zones - a.at.marks ≡ a.rows.zones = omega arith in
+    let fits : a.at.marks + a.rows.zones ≤ length w =
+    omega (arith, laid, c.search.ensures.kept.long, c.stamp.ensures.long)
+    in
+    let told = says_all w a.at.marks a.rows.zones c.contains.result fits (rw n at c.contains.ensures.cases) in
+    swept a.work.now c.search.new.work w a.rows a.at a.from a.gone.now
+    (not c.contains.result) laid.apart c.requires.clear c.search.ensures (omega arith)
+    c.stamp.ensures told
