@@ -9,9 +9,8 @@ use mathlib.Core.Bool.{Bool}
 use Prim.Native.Nat.{ℕ}
 use lib.Dec.{ltb}
 use lib.ListN.{length}
+use Rattle.std.specs.Prelude.{Result, Ok, Err}
 use Rattle.rules.specs.declared.Trouble.{Trouble}
-use Rattle.rules.specs.declared.StrongAnswer.{StrongAnswer}
-use Rattle.rules.specs.declared.ReachAnswer.{ReachAnswer}
 use Rattle.rules.specs.Network.{strong, reaches}
 use Rattle.rules.specs.Lists.{listed}
 use Rattle.rules.specs.Calls.{network_tests, question_tests, room_test, asked_work, handed, handed_with}
@@ -22,6 +21,7 @@ use Rattle.theory.proofs.Files.Troubles.{passes, both_pass}
 use Rattle.theory.proofs.Withdrawn.Remaining.{remaining_in}
 use Rattle.theory.proofs.Files.Accepting.{FineWith, fine_with_bridge, question_remain}
 use Rattle.workmap.specs.Map.{map_of}
+use Rattle.probes.specs.Tested.{tested_trouble}
 use Rattle.withdrawn.specs.Withdrawn.{ReadyWith}
 use Rattle.withdrawn.proofs.Readying.{tests_ready}
 use Rattle.reaching.specs.Questions.{Askable, Answered}
@@ -35,14 +35,17 @@ module _ (n : ℕ) (ts hs gone w : List ℕ) where
       tests_ready n ts hs gone w p.0 (passes (ltb (length w) (asked_work n (length ts))) _ _ p.1).0
 
   -- STRONG refuses
-  pub strong_refused : (t : Trouble) → strong_trouble n ts hs gone w ≡ some t →
-      StrongPromise n ts hs gone w w (strong_told (StrongAnswer.Refused t))
-  strong_refused t e = record { told_is = rw e refl; work = rw e refl }
+  pub strong_refused : (r : Result Bool Trouble) (t : Trouble) → tested_trouble r ≡ some t →
+      strong_trouble n ts hs gone w ≡ some t → StrongPromise n ts hs gone w w (strong_told r)
+  strong_refused (Ok b) t is e = cc
+  strong_refused (Err u) t is e =
+      let same : u ≡ t = cc in
+      rw same (record { told_is = rw e refl; work = rw e refl })
 
   -- STRONG answers
   pub strong_done : (w' : List ℕ) (b : Bool) → strong_trouble n ts hs gone w ≡ none →
       Answered b (strong (handed_with n ts hs gone)) (asked_work n (length ts)) w w' →
-      StrongPromise n ts hs gone w w' (strong_told (StrongAnswer.Done b))
+      StrongPromise n ts hs gone w w' (strong_told (Ok b))
   strong_done w' b e A = record { told_is = rw (e, A.answer) refl; work = rw e A.work }
 
 module _ (n : ℕ) (ts hs gone : List ℕ) (from to : ℕ) (w : List ℕ) where
@@ -66,14 +69,17 @@ module _ (n : ℕ) (ts hs gone : List ℕ) (from to : ℕ) (w : List ℕ) where
       )
 
   -- REACH refuses
-  pub reach_refused : (t : Trouble) → reach_trouble n ts hs gone from to w ≡ some t →
-      ReachPromise n ts hs gone from to w w (reach_told (ReachAnswer.Refused t))
-  reach_refused t e = record { told_is = rw e refl; work = rw e refl }
+  pub reach_refused : (r : Result Bool Trouble) (t : Trouble) → tested_trouble r ≡ some t →
+      reach_trouble n ts hs gone from to w ≡ some t → ReachPromise n ts hs gone from to w w (reach_told r)
+  reach_refused (Ok b) t is e = cc
+  reach_refused (Err u) t is e =
+      let same : u ≡ t = cc in
+      rw same (record { told_is = rw e refl; work = rw e refl })
 
   -- REACH answers: reach is the same among all numbers and among the zones that remain
   pub reach_done : (w' : List ℕ) (b : Bool) → reach_trouble n ts hs gone from to w ≡ none →
       Answered b (reaches (handed n ts hs) from to) (asked_work n (length ts)) w w' →
-      ReachPromise n ts hs gone from to w w' (reach_told (ReachAnswer.Done b))
+      ReachPromise n ts hs gone from to w w' (reach_told (Ok b))
   reach_done w' b e A =
       let B = fine_with_bridge n ts hs gone (reach_askable e).1 in
       record { told_is = rw (e, A.answer, B.reaches_is from to) refl; work = rw e A.work }
