@@ -1,22 +1,18 @@
 -- One block over a cleared table, and the loop over the blocks.
---   end_yes, end_no               the two ways of the block's end;   end_low   it is a place, or behind the last
+--   end_low                       the block's end is a place, or behind the last
 --   block_laid .. block_done      what one block asks of its sweep, and what it leaves
 --   Blocking ..                   the first blocks are done, with the loop's start, one turn and its end
 -- Names and rows stand behind the table, and a cleared table depends on what stands behind it only: so every block sees
 -- what was there at the start. Assumes nothing.
 use mathlib.Core.Path.{◌≡◌, refl, ap, ap₂, ◌∙◌}
-use mathlib.Core.Logic.{inl, inr}
 use mathlib.Core.List.{List, ◌++◌}
 use Prim.Native.Nat.{ℕ, zero, suc, ◌+◌, ◌-◌, ◌*◌, ◌≤◌, ◌<◌}
 use native.Mathlib.Decide.{ℕ_discrete}
 use native.Mathlib.Numerals.{add-one}
 use native.Mathlib.Omega.{arith}
-use borrow.Author.Tests.{ltb-true, ltb-false, lt-ltb, le-ltb}
-use lib.Dec.{ltb}
 use lib.ListN.{length, drop, length-append}
 use Rattle.rules.specs.Lists.{cleared}
 use Rattle.rules.specs.Network.{Arc}
-use Rattle.theory.proofs.Ground.Bools.{bool_cases}
 use Rattle.workmap.specs.declared.TableAt.{TableAt}
 use Rattle.memory.specs.Regions.{cell}
 use Rattle.memory.specs.Putting.{ArcsFit, ArcsPut}
@@ -29,29 +25,9 @@ use Rattle.blocks.specs.Sweeps.{places_arcs, block_end, block_arcs, all_arcs, bl
 use Rattle.blocks.specs.Contract.{PlacesTurned, BlockDone, CrossingsPut}
 use Rattle.blocks.proofs.TableRight.{places_turned_long, places_turned_behind}
 
--- a block that is not the last ends behind its 128 components
-pub end_yes : (n first : ℕ) → first + 128 < n → first + 128 ≡ block_end n first
-unfolding block_end
-end_yes n first h = rw (lt-ltb (first + 128) n h, block_end)
-
--- the last one ends behind all components
-pub end_no : (n first : ℕ) → n ≤ first + 128 → n ≡ block_end n first
-unfolding block_end
-end_no n first h = rw (le-ltb (first + 128) n h, block_end)
-
 -- the end is no more than there are places, and every component of the block stands before it
 pub end_low : (n first : ℕ) → (block_end n first ≤ n) × ((l : ℕ) → l < n → l - first < 128 → l < block_end n first)
-end_low n first =
-    elim (bool_cases (ltb (first + 128) n)) [
-      | inl e ↦
-          let h = ltb-true (first + 128) n e in
-          let q = end_yes n first h in
-          (omega arith, λ l i j. omega arith)
-      | inr e ↦
-          let h = ltb-false (first + 128) n e in
-          let q = end_no n first h in
-          (omega arith, λ l i j. omega arith)
-    ]
+end_low n first = (omega arith, λ l i j. omega arith)
 
 -- the table lies in the memory
 pub table_room : {w : List ℕ} {b : Block} → BlockLaid w b → b.places * 8 ≤ length w

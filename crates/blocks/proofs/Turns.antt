@@ -1,4 +1,4 @@
--- The loop over the places of a block, from the last on: its invariant, with its start, one turn and its end.
+-- The loop over the places of a block, from the last on: its invariant, with its start and one turn.
 --   TurningPlaces ..   all places but the first `left` have had their turns
 -- The plain function goes as the loop goes, so a turn is an unfolding. Assumes nothing.
 use mathlib.Core.Path.{◌≡◌, refl, ap, ◌∙◌}
@@ -19,7 +19,6 @@ use Rattle.turning.specs.Contract.{PlaceTurned}
 use Rattle.turning.proofs.Memory.{place_turned_long, place_turned_behind}
 use Rattle.uniting.proofs.Behind.{tops_kept, rows_kept, laid_kept}
 use Rattle.blocks.specs.Sweeps.{places_turned, places_arcs}
-use Rattle.blocks.specs.Contract.{PlacesTurned}
 
 -- fewer turns leave no more arcs
 places_arcs_few : (top : ℕ → ℕ) (w : List ℕ) (first : ℕ) (row : ℕ → List ℕ) (e m k : ℕ) → m ≤ k →
@@ -135,10 +134,3 @@ module _ {w u : List ℕ} {b : Block} {e : ℕ} {ts hs ts' hs' : List ℕ} {p le
             ∙ rw (more, here);
         put = rw arcs_grown (put_then S.put T.put);
       }
-
--- all of them
-pub places_end : {w u : List ℕ} {b : Block} {e : ℕ} {ts hs ts' hs' : List ℕ} {p left next : ℕ} →
-    TurningPlaces w u b e ts hs ts' hs' p left next → left ≤ 0 → PlacesTurned w u b e ts hs ts' hs' p next
-places_end {e = e} {left = left} S h =
-    let all : e - left ≡ e = omega arith in
-    record { memory = rw all at S.memory; put = rw all at S.put }

@@ -8,7 +8,7 @@
 --   block_of at n first          the block of the components from `first` on
 --   crossing_arcs w at n         the arcs of all blocks, as they stand in the memory
 -- Each goes as its loop goes.
-use Rattle.std.specs.Prelude.{ℕ, zero, suc, ◌+◌, ◌-◌, ◌*◌, ◌/◌, true, false, List, [], ◌++◌, ltb}
+use Rattle.std.specs.Prelude.{ℕ, zero, suc, ◌+◌, ◌-◌, ◌*◌, ◌/◌, min, List, [], ◌++◌}
 use Rattle.rules.specs.Lists.{cleared}
 use Rattle.rules.specs.Network.{Arc}
 use Rattle.workmap.specs.declared.TableAt.{TableAt}
@@ -33,12 +33,12 @@ places_arcs top w first row e (suc m) =
     ++ place_arcs top (places_turned w first row e m) first (e - suc m) (row (e - suc m))
 
 -- the place behind the last component that is of the block
-unfoldable pub block_end : ℕ → ℕ → ℕ
-block_end n first = elim (ltb (first + 128) n) [ true ↦ first + 128 | false ↦ n ]
+abbrev pub block_end : ℕ → ℕ → ℕ
+block_end n first = min (first + 128) n
 
 -- the arcs of one block
 unfoldable pub block_arcs : (ℕ → ℕ) → List ℕ → ℕ → ℕ → (ℕ → List ℕ) → List Arc
-unfolding places_arcs block_end
+unfolding places_arcs
 block_arcs top w n first row =
     places_arcs top (cleared (n * 8) w) first row (block_end n first) (block_end n first)
 

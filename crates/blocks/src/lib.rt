@@ -12,24 +12,13 @@ ghost use Rattle.std.specs.Prelude.{◌≡◌, ◌≤◌};
 ghost use Rattle.memory.specs.Regions.{cell};
 ghost use Rattle.memory.specs.Putting.{ArcsFit};
 ghost use Rattle.uniting.specs.Uniting.{row_heads, BlockLaid};
-ghost use Rattle.blocks.specs.Sweeps.{places_arcs, block_end, block_arcs, block_of, crossing_arcs};
+ghost use Rattle.blocks.specs.Sweeps.{places_arcs, block_arcs, block_of, crossing_arcs};
 ghost use Rattle.blocks.specs.Contract.{PlacesTurned, BlockDone, CrossingsPut};
 
 use memory::clear;
 use turning::turn;
 use uniting::Block;
 use workmap::TableAt;
-
-// The place behind the last component that is of the block.
-fn end_of(places: usize, first: usize) -> usize
-    requires { first ≤ 1024 }
-    ensures { result ≡ block_end places first }
-{
-    if first + 128 < places {
-        return first + 128;
-    }
-    places
-}
 
 // The turns of the components before `end`, from the last on. Answers the next free place behind `put`.
 fn sweep(
@@ -47,12 +36,9 @@ fn sweep(
     ensures { PlacesTurned work.old work.new b end tails.old
         heads.old tails.new heads.new put result }
 {
-    let mut left = end;
     let mut next = put;
-    while 0 < left {
-        let j = left - 1;
+    for j in (0..end).rev() {
         next = turn(work, b, j, tails, heads, next);
-        left -= 1;
     }
     next
 }
@@ -66,7 +52,7 @@ fn block(work: &mut [u16], b: Block, tails: &mut [u16], heads: &mut [u16], put: 
     ensures { BlockDone work.old work.new b tails.old
         heads.old tails.new heads.new put result }
 {
-    let end = end_of(b.places, b.first);
+    let end = (b.first + 128).min(b.places);
     clear(work, b.places * 8);
     sweep(work, b, end, tails, heads, put)
 }
@@ -86,18 +72,16 @@ pub fn cross(
     ensures { CrossingsPut work.old work.new at places tails.old
         heads.old tails.new heads.new put result }
 {
-    let mut first = 0;
     let mut next = put;
-    while first < places {
+    for first in (0..places).step_by(128) {
         let b = Block {
-            places: places,
-            first: first,
+            places,
+            first,
             tops: at.tops,
             starts: at.rows.starts,
             rows: at.rows.rows,
         };
         next = block(work, b, tails, heads, next);
-        first += 128;
     }
     next
 }

@@ -3,10 +3,10 @@
 --   put_followed, put_alone, put_fits   the arc out of a zone that another follows is put, out of one alone none is;
 --                          it has room
 --   Passing                the zones from z on are passed: their arcs are put, and the lowest of each name is noted
---   passing_start, passing_lent, passing_room, passing_turn, passing_end   the loop
+--   passing_start, passing_lent, passing_room, passing_turn   the loop
 -- What is noted for a name is what comes next in its ring from the zones passed, so one zone more is one case of
 -- `first`. Assumes nothing.
-use mathlib.Core.Path.{◌≡◌, sym, ap, ap₂, subst, ◌∙◌}
+use mathlib.Core.Path.{◌≡◌, sym, ap, ◌∙◌}
 use mathlib.Core.Logic.{inl, inr, ◌≢◌}
 use mathlib.Core.Bool.{Bool}
 use mathlib.Core.List.{List, [], ◌∷◌, ◌++◌}
@@ -29,7 +29,7 @@ use Rattle.memory.proofs.Numbers.{same?}
 use Rattle.memory.proofs.Regions.{at_kept}
 use Rattle.memory.proofs.Stores.{sets_more, take_sets, drop_sets, getD_sets_at}
 use Rattle.memory.proofs.Puts.{put_none, put_one, put_then, put_long}
-use Rattle.rings.specs.Rings.{next_round, ring_arc, rings_of, RingsLent, RingPut, RingsPut}
+use Rattle.rings.specs.Rings.{next_round, ring_arc, rings_of, RingsLent, RingPut}
 
 -- one name more is noted at the start
 pub start_more : (w u : List ℕ) (at a : ℕ) → u ≡ sets w at (span 0 a) → set u (at + a) a ≡ sets w at (span 0 (a + 1))
@@ -235,20 +235,3 @@ module _ {w u : List ℕ} {R : RingsAt} {ts hs ts' hs' : List ℕ} {put z next :
                   ∙ sym (first_miss test b zs (ne_eqb (f (z - 1)) b (λ e. other (sym e ∙ sym (kept (z - 1))))))
                   ∙ sym next
             ]
-
--- all zones are passed
-pub passing_end : {w u : List ℕ} {R : RingsAt} {ts hs ts' hs' : List ℕ} {put z next : ℕ}
-    → Passing w u R ts hs ts' hs' put z next → z ≤ 0 → RingsPut w u R ts hs ts' hs' put next
-passing_end {w} {R = R} {ts} {hs} {ts'} {hs'} {put} {z} {next} P h =
-    let first : z ≡ 0 = omega arith in
-    let all : R.zones - z ≡ R.zones = omega arith in
-    record {
-      arcs =
-          subst
-          (λ (l : List ℕ). ArcsPut ts hs ts' hs' put (rings_of (cell w R.names) l) next)
-          (ap₂ span first all)
-          P.arcs;
-      long = P.long;
-      low = P.low;
-      high = P.high;
-    }

@@ -1,29 +1,19 @@
 -- When a head is fresh: it is of the block, and not in the row.
---   fresh_before, fresh_after, fresh_inside    a number before the block, behind it, and in it
---   fresh_true                                 what a fresh number is
+--   fresh_inside    a number of the block
+--   fresh_true      what a fresh number is
 -- By the tests that `fresh` is made of. Assumes nothing.
 use mathlib.Core.Path.{◌≡◌}
 use mathlib.Core.Bool.{true, false, not, ◌&&◌}
 use mathlib.Core.List.{List}
 use Prim.Native.Nat.{ℕ, ◌-◌, ◌≤◌, ◌<◌}
-use borrow.Author.Tests.{lt-leb, le-leb, lt-ltb, le-ltb, leb-true, ltb-true}
+use borrow.Author.Tests.{le-leb, lt-ltb, leb-true, ltb-true}
 use lib.Dec.{leb, ltb}
 use Rattle.theory.proofs.Ground.Bools.{and_true, not_true}
 use Rattle.bits.specs.Bits.{bit_in}
 use Rattle.taking.specs.Taking.{fresh}
 
 module _ (w : List ℕ) (first j k : ℕ) where
-  -- a number before the block is not fresh
-  pub fresh_before : k < first → false ≡ fresh w first j k
-  unfolding fresh
-  fresh_before h = rw (lt-leb first k h)
-
-  -- nor is one behind it
-  pub fresh_after : first ≤ k → 128 ≤ k - first → false ≡ fresh w first j k
-  unfolding fresh
-  fresh_after l h = rw (le-leb first k l, le-ltb (k - first) 128 h)
-
-  -- one of the block is fresh where it is not in row j
+  -- a number of the block is fresh where it is not in row j
   pub fresh_inside : first ≤ k → k - first < 128 → not (bit_in w 8 j (k - first)) ≡ fresh w first j k
   unfolding fresh
   fresh_inside l h = rw (le-leb first k l, lt-ltb (k - first) 128 h)

@@ -12,18 +12,12 @@ use bits::{has_bit, set_bit};
 use uniting::Block;
 
 // Whether k is of the block, and not in row j.
+#[tactic(auto, unfolding(crate::specs::Taking::fresh))]
 fn is_fresh(work: &[u16], first: usize, j: usize, k: usize) -> bool
     requires { (j < 1024) × (j * 8 + 8 ≤ length work.now) }
     ensures { result ≡ fresh work.now first j k }
 {
-    if k < first {
-        return false;
-    }
-    let bit = k - first;
-    if 128 <= bit {
-        return false;
-    }
-    !has_bit(work, 8, j, bit)
+    first <= k && k - first < 128 && !has_bit(work, 8, j, k - first)
 }
 
 // Where the head k of component j is fresh: puts k into row j, and the arc from the one's name to the other's into the

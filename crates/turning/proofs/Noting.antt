@@ -1,16 +1,16 @@
--- The loop that takes the heads of a row: its invariant, with its start, one turn and its end.
---   Noting ..   the last `left` heads of row j, taken into what stands there now, give what all of them give, both in
+-- The loop that takes the heads of a row: its invariant, with one turn and its end.
+--   Noting ..   the heads of row j from `at` on, taken into what stands there now, give what all of them give, both in
 --               the table and in what is kept; what was kept so far is put
 -- What is still to be done is said over what is left of the row, so a turn is an unfolding. Assumes nothing.
-use mathlib.Core.Path.{◌≡◌, refl, sym, ap, ◌∙◌}
-use mathlib.Core.List.{List, [], ◌∷◌, ◌++◌, map, map-append, append_assoc, append-nil}
-use Prim.Native.Nat.{ℕ, ◌+◌, ◌-◌, ◌*◌, ◌≤◌, ◌<◌}
+use mathlib.Core.Path.{◌≡◌, sym, ap, ◌∙◌}
+use mathlib.Core.List.{List, ◌∷◌, ◌++◌, map, map-append, append_assoc, append-nil}
+use Prim.Native.Nat.{ℕ, ◌+◌, ◌*◌, ◌≤◌, ◌<◌}
 use native.Mathlib.Omega.{arith}
 use lib.ListN.{length, get_or, drop, length-append, length-map}
 use Rattle.rules.specs.Network.{Arc, ◌⟶◌}
 use Rattle.memory.specs.Regions.{cell}
 use Rattle.memory.specs.Putting.{ArcsFit, ArcsPut}
-use Rattle.memory.proofs.Puts.{put_none, put_then, put_long}
+use Rattle.memory.proofs.Puts.{put_then, put_long}
 use Rattle.bits.proofs.Tables.{row_room}
 use Rattle.uniting.specs.declared.Block.{Block}
 use Rattle.taking.specs.Taking.{taken, taken_arcs}
@@ -20,7 +20,7 @@ use Rattle.taking.specs.Taking.{HeadTaken}
 use Rattle.turning.specs.Contract.{RowNoted}
 use Rattle.taking.proofs.Taken.{taken_long, taken_behind}
 use Rattle.uniting.proofs.Behind.{tops_kept, laid_kept}
-use Rattle.uniting.proofs.HeadsLeft.{left_of, HeadsLeft, left_all, left_start, left_none, left_more, left_low}
+use Rattle.uniting.proofs.HeadsLeft.{left_of, HeadsLeft, left_none, left_more, left_low}
 use Rattle.uniting.proofs.HeadsLeft.{left_cons}
 use Rattle.taking.proofs.Taking.{taken_heads, taken_map}
 use Rattle.turning.proofs.Kept.{kept_step}
@@ -29,34 +29,19 @@ use Rattle.turning.proofs.Kept.{kept_step}
 abbrev arcs_to : List ℕ → Block → ℕ → List ℕ → List Arc
 arcs_to w b j ks = map (λ k. cell w b.tops j ⟶ cell w b.tops k) ks
 
--- all heads but the last `left` are taken
-pub record Noting (w u : List ℕ) (b : Block) (j : ℕ) (ts hs ts' hs' : List ℕ) (p to left next : ℕ) : Type 0 where
-  pub rest : HeadsLeft w b j to left
+-- all heads before `at` are taken
+pub record Noting (w u : List ℕ) (b : Block) (j : ℕ) (ts hs ts' hs' : List ℕ) (p at to next : ℕ) : Type 0 where
+  pub rest : HeadsLeft w b j at to
   pub long : length u ≡ length w
   pub behind : drop (b.places * 8) u ≡ drop (b.places * 8) w
   pub out : List ℕ
-  pub memory : noted u b.first j (left_of w to left) ≡ noted w b.first j (row_heads w b j)
-  pub still : out ++ kept_heads u b.first j (left_of w to left) ≡ kept_heads w b.first j (row_heads w b j)
+  pub memory : noted u b.first j (left_of w at to) ≡ noted w b.first j (row_heads w b j)
+  pub still : out ++ kept_heads u b.first j (left_of w at to) ≡ kept_heads w b.first j (row_heads w b j)
   pub put : ArcsPut ts hs ts' hs' p (arcs_to w b j out) next
 
--- at first none is
-pub note_start : {w : List ℕ} {b : Block} → BlockLaid w b → (j : ℕ) → j < b.places → (at to : ℕ) →
-    at ≡ b.rows + cell w b.starts j → to ≡ b.rows + cell w b.starts (j + 1) → (ts hs : List ℕ) (p : ℕ) →
-    Noting w w b j ts hs ts hs p to (to - at) p
-note_start {w} {b} L j h at to from end ts hs p =
-    record {
-      rest = left_start L j h at to from end;
-      long = refl;
-      behind = refl;
-      out = [];
-      memory = ap (noted w b.first j) (left_all L j h at to from end);
-      still = ap (kept_heads w b.first j) (left_all L j h at to from end);
-      put = put_none ts hs p;
-    }
-
-module _ {w u : List ℕ} {b : Block} {j : ℕ} {ts hs ts' hs' : List ℕ} {p to left next : ℕ} (L : BlockLaid w b)
-    (l : j < b.places) (T : Noting w u b j ts hs ts' hs' p to left next) (h : 0 < left) (k : ℕ)
-    (e : k ≡ get_or u (to - left) 0) where
+module _ {w u : List ℕ} {b : Block} {j : ℕ} {ts hs ts' hs' : List ℕ} {p at to next : ℕ} (L : BlockLaid w b)
+    (l : j < b.places) (T : Noting w u b j ts hs ts' hs' p at to next) (h : at < to) (k : ℕ)
+    (e : k ≡ get_or u at 0) where
   -- names and rows still stand behind the table
   pub note_laid : BlockLaid u b
   note_laid = laid_kept L u T.behind T.long
@@ -66,7 +51,7 @@ module _ {w u : List ℕ} {b : Block} {j : ℕ} {ts hs ts' hs' : List ℕ} {p to
   note_low = left_low T.rest h L u T.behind k e
 
   -- what is left of the row begins with it
-  ahead : left_of w to left ≡ k ∷ left_of w to (left - 1)
+  ahead : left_of w at to ≡ k ∷ left_of w (at + 1) to
   ahead = left_cons T.rest h L u T.behind k e
 
   -- the heads that are kept, with this one
@@ -74,11 +59,11 @@ module _ {w u : List ℕ} {b : Block} {j : ℕ} {ts hs ts' hs' : List ℕ} {p to
   more = T.out ++ taken_heads u b.first j k
 
   -- and those that are still to be kept
-  grown : more ++ kept_heads (taken u b.first j k) b.first j (left_of w to (left - 1))
+  grown : more ++ kept_heads (taken u b.first j k) b.first j (left_of w (at + 1) to)
       ≡ kept_heads w b.first j (row_heads w b j)
   grown =
       append_assoc T.out (taken_heads u b.first j k) _
-      ∙ ap (λ (x : List ℕ). T.out ++ x) (sym (kept_step u b.first j k (left_of w to (left - 1))))
+      ∙ ap (λ (x : List ℕ). T.out ++ x) (sym (kept_step u b.first j k (left_of w (at + 1) to)))
       ∙ ap (λ (x : List ℕ). T.out ++ kept_heads u b.first j x) (sym ahead)
       ∙ T.still
 
@@ -95,7 +80,7 @@ module _ {w u : List ℕ} {b : Block} {j : ℕ} {ts hs ts' hs' : List ℕ} {p to
   note_room R =
       let f : ℕ → Arc = λ x. cell w b.tops j ⟶ cell w b.tops x in
       let all = ap length grown in
-      let one = length-append more (kept_heads (taken u b.first j k) b.first j (left_of w to (left - 1))) in
+      let one = length-append more (kept_heads (taken u b.first j k) b.first j (left_of w (at + 1) to)) in
       let two = length-append T.out (taken_heads u b.first j k) in
       let arcs = ap length arc_now in
       let new = length-map (taken_heads u b.first j k) f in
@@ -109,7 +94,7 @@ module _ {w u : List ℕ} {b : Block} {j : ℕ} {ts hs ts' hs' : List ℕ} {p to
 
   -- one head more
   pub note_turn : (v ts'' hs'' : List ℕ) (r : ℕ) → HeadTaken u v b j k ts' hs' ts'' hs'' next r →
-      Noting w v b j ts hs ts'' hs'' p to (left - 1) r
+      Noting w v b j ts hs ts'' hs'' p (at + 1) to r
   unfolding noted
   note_turn v ts'' hs'' r K =
       record {
@@ -121,22 +106,22 @@ module _ {w u : List ℕ} {b : Block} {j : ℕ} {ts hs ts' hs' : List ℕ} {p to
             ∙ T.behind;
         out = more;
         memory =
-            ap (λ (x : List ℕ). noted x b.first j (left_of w to (left - 1))) K.memory
+            ap (λ (x : List ℕ). noted x b.first j (left_of w (at + 1) to)) K.memory
             ∙ ap (noted u b.first j) (sym ahead)
             ∙ T.memory;
         still =
-            ap (λ (x : List ℕ). more ++ kept_heads x b.first j (left_of w to (left - 1))) K.memory ∙ grown;
+            ap (λ (x : List ℕ). more ++ kept_heads x b.first j (left_of w (at + 1) to)) K.memory ∙ grown;
         put =
             rw (map-append (λ x. cell w b.tops j ⟶ cell w b.tops x) T.out (taken_heads u b.first j k))
             (put_then T.put (rw arc_now at K.put));
       }
 
 -- all of them
-pub note_end : {w u : List ℕ} {b : Block} {j : ℕ} {ts hs ts' hs' : List ℕ} {p to left next : ℕ} →
-    Noting w u b j ts hs ts' hs' p to left next → left ≤ 0 → RowNoted w u b j ts hs ts' hs' p next
+pub note_end : {w u : List ℕ} {b : Block} {j : ℕ} {ts hs ts' hs' : List ℕ} {p at to next : ℕ} →
+    Noting w u b j ts hs ts' hs' p at to next → to ≤ at → RowNoted w u b j ts hs ts' hs' p next
 unfolding noted kept_heads noted_arcs
-note_end {w} {u} {b} {j} {ts} {hs} {ts'} {hs'} {p} {to} {left} {next} T h =
-    let none = left_none w to left h in
+note_end {w} {u} {b} {j} {ts} {hs} {ts'} {hs'} {p} {at} {to} {next} T h =
+    let none = left_none w at to h in
     let all : T.out ≡ kept_heads w b.first j (row_heads w b j) =
     sym (append-nil T.out) ∙ ap (λ (x : List ℕ). T.out ++ kept_heads u b.first j x) (sym none) ∙ T.still in
     record {

@@ -15,7 +15,6 @@ ghost use Rattle.uniting.specs.Uniting.{row_heads, BlockLaid};
 ghost use Rattle.turning.specs.Steps.{noted_arcs, place_arcs};
 ghost use Rattle.turning.specs.Contract.{RowNoted, PlaceTurned};
 
-use memory::wide;
 use taking::take;
 use uniting::{Block, heads_at, unite};
 
@@ -35,13 +34,12 @@ fn note(
     ensures { RowNoted work.old work.new b j tails.old
         heads.old tails.new heads.new put result }
 {
+    let from = heads_at(work, b, j);
     let to = heads_at(work, b, j + 1);
-    let mut rest = to - heads_at(work, b, j);
     let mut next = put;
-    while 0 < rest {
-        let k = wide(work[to - rest]);
+    for at in from..to {
+        let k = usize::from(work[at]);
         next = take(work, b, j, k, tails, heads, next);
-        rest -= 1;
     }
     next
 }

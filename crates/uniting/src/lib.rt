@@ -9,7 +9,6 @@ ghost use Rattle.memory.specs.Regions.{cell};
 ghost use Rattle.uniting.specs.Uniting.{row_heads, BlockLaid, united};
 
 use bits::join;
-use memory::wide;
 
 // A block: how many components there are, the first of the block, and where the names of all components, the starts of
 // their rows of heads, and these rows stand.
@@ -28,7 +27,7 @@ pub fn heads_at(work: &[u16], b: Block, j: usize) -> usize
     requires j_le_places { j ≤ b.places }
     ensures { result ≡ b.rows + cell work.now b.starts j }
 {
-    b.rows + wide(work[b.starts + j])
+    b.rows + usize::from(work[b.starts + j])
 }
 
 // U of component j: the rows of its heads go into row j.
@@ -37,11 +36,10 @@ pub fn unite(work: &mut [u16], b: Block, j: usize)
     requires j_lt_places { j < b.places }
     ensures { work.new ≡ united work.old j (row_heads work.old b j) }
 {
+    let from = heads_at(work, b, j);
     let to = heads_at(work, b, j + 1);
-    let mut left = to - heads_at(work, b, j);
-    while 0 < left {
-        let k = wide(work[to - left]);
+    for at in from..to {
+        let k = usize::from(work[at]);
         join(work, j * 8, k * 8, 8);
-        left -= 1;
     }
 }

@@ -1,29 +1,22 @@
 -- `blocks::block` meets its contract: a sweep of the cleared table up to the block's end. Assumes nothing.
-use native.Mathlib.Omega.{arith}
-use Rattle.blocks.proofs.BlockLoops.{table_room, block_laid, block_low, block_room, block_done}
+use Rattle.blocks.proofs.BlockLoops.{block_laid, block_low, block_room, block_done}
 use Rattle.blocks.proofs.block.Goals as goal
 
 pub returns : goal.returns
 returns c =
     let a = c.args in
-    block_done c.requires.block_laid c.end_of-end.result c.end_of-end.ensures c.clear.new.work c.clear.ensures
+    block_done c.requires.block_laid c.min-end.result c.min-end.ensures c.clear.new.work c.clear.ensures
     c.sweep.new.work a.tails.now a.heads.now c.sweep.new.tails
     c.sweep.new.heads a.put c.sweep.result c.sweep.ensures
-
-pub overflow_mul-b : goal.overflow_mul-b
-overflow_mul-b c = omega (arith, c.requires.block_laid.small)
-
-pub clear-requires : goal.clear-requires
-clear-requires c = table_room c.requires.block_laid
 
 pub sweep-requires : goal.sweep-requires
 sweep-requires c =
     let a = c.args in record {
-      block_laid = block_laid c.requires.block_laid c.end_of-end.result c.end_of-end.ensures c.clear.new.work
+      block_laid = block_laid c.requires.block_laid c.min-end.result c.min-end.ensures c.clear.new.work
           c.clear.ensures;
-      end_le_places = block_low c.requires.block_laid c.end_of-end.result c.end_of-end.ensures c.clear.new.work
+      end_le_places = block_low c.requires.block_laid c.min-end.result c.min-end.ensures c.clear.new.work
           c.clear.ensures;
-      arcs_fit = block_room c.requires.block_laid c.end_of-end.result c.end_of-end.ensures c.clear.new.work
+      arcs_fit = block_room c.requires.block_laid c.min-end.result c.min-end.ensures c.clear.new.work
           c.clear.ensures
           a.tails.now a.heads.now a.put c.requires.arcs_fit;
     }

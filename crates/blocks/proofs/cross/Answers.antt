@@ -1,4 +1,4 @@
-use Rattle.memory.proofs.Puts.{put_long}
+use native.Mathlib.Omega.{arith}
 use Rattle.blocks.proofs.BlockLoops.{blocking_start, blocking_laid, blocking_first, blocking_room}
 use Rattle.blocks.proofs.BlockLoops.{blocking_turn, blocking_end}
 use Rattle.blocks.proofs.cross.Goals as goal
@@ -9,7 +9,15 @@ loop-first-preserved c =
     c.block-next.new.tails c.block-next.new.heads c.block-next.result c.block-next.ensures
 
 pub returns : goal.returns
-returns c = blocking_end c.loop-first.invariant c.loop-first-test.false
+returns c = blocking_end c.loop-first.invariant (omega arith)
+
+-- the last block ends behind all places, and no next one is asked for
+pub returns-2 : goal.returns-2
+returns-2 c =
+    blocking_end
+    (blocking_turn c.requires.block_laid c.loop-first.invariant c.loop-first-test.true c.block-next.new.work
+    c.block-next.new.tails c.block-next.new.heads c.block-next.result c.block-next.ensures)
+    (omega arith)
 
 pub loop-first-init : goal.loop-first-init
 loop-first-init c =
@@ -24,9 +32,3 @@ block-next-requires c =
       arcs_fit = blocking_room c.requires.block_laid c.loop-first.invariant c.loop-first-test.true
           c.requires.arcs_fit;
     }
-
-pub shape_of-tails : goal.shape_of-tails
-shape_of-tails c = (put_long c.loop-first.invariant.put).0
-
-pub shape_of-heads : goal.shape_of-heads
-shape_of-heads c = (put_long c.loop-first.invariant.put).1

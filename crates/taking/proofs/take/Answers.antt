@@ -5,7 +5,6 @@ use Prim.Native.Nat.{◌<◌}
 use native.Mathlib.Omega.{arith}
 use lib.ListN.{length}
 use Rattle.memory.specs.Regions.{cell}
-use Rattle.bits.proofs.Tables.{row_room}
 use Rattle.taking.specs.Taking.{fresh}
 use Rattle.taking.proofs.Fresh.{fresh_true}
 use Rattle.taking.proofs.Taking.{take_skip, take_hit, take_room}
@@ -36,13 +35,6 @@ returns-then-not-is_fresh c =
     take_skip a.work.now a.b a.j a.k a.tails.now a.heads.now a.at
     (sym c.is_fresh.ensures ∙ c.if-not-is_fresh.true)
 
-pub is_fresh-requires : goal.is_fresh-requires
-is_fresh-requires c =
-    let P = c.requires.block_laid in (
-      omega (arith, c.requires.j_and_k_lt_places.0, P.small),
-      omega (arith, row_room 8 c.args.b.places c.args.j c.requires.j_and_k_lt_places.0, P.tops_behind, P.tops_fit),
-    )
-
 pub overflow_sub-bit : goal.overflow_sub-bit
 overflow_sub-bit c =
     let a = c.args in
@@ -53,15 +45,3 @@ bounds-tails-at c = (room (goal.at.bounds-tails-at c).Else-not-is_fresh).0
 
 pub bounds-heads-at : goal.bounds-heads-at
 bounds-heads-at c = (room (goal.at.bounds-heads-at c).Else-not-is_fresh).1
-
-pub set_bit-requires : goal.set_bit-requires
-set_bit-requires c =
-    let a = c.args in
-    let P = c.requires.block_laid in
-    omega (
-      arith,
-      row_room 8 a.b.places a.j c.requires.j_and_k_lt_places.0,
-      P.tops_behind,
-      P.tops_fit,
-      fresh_true a.work.now a.b.first a.j a.k (hit (goal.at.set_bit-requires c).Else-not-is_fresh),
-    )

@@ -1,10 +1,6 @@
--- `uniting::unite` meets its contract: the last `left` heads of the row are still to be united. The measure is `left`.
--- Assumes nothing.
-use Rattle.uniting.proofs.Uniting.{UnitingAny}
+-- `uniting::unite` meets its contract: the heads of the row from `at` on are still to be united. Assumes nothing.
+use Rattle.uniting.proofs.Uniting.{Uniting}
 use Rattle.uniting.proofs.unite.Given as goal
 
-abbrev pub invariant-loop-left : goal.invariant-loop-left
-invariant-loop-left l = UnitingAny l.initial.work l.work l.j l.to l.initial.left l.left
-
-abbrev pub decreases-loop-left : goal.decreases-loop-left
-decreases-loop-left l = l.left
+abbrev pub invariant-loop-at : goal.invariant-loop-at
+invariant-loop-at l = Uniting l.initial.work l.work l.fn.b l.j l.at l.to
