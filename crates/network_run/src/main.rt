@@ -2,128 +2,45 @@
 // A line has the label, the number, the place, the value, and how many elements of the work memory are not zero then.
 #![tactic(auto)]
 
-ghost use Rattle.std.specs.Prelude.{◌<◌, length, IfOk};
-
 use network::{reach, strong};
-use printing::{done, number, others, refused};
-use rules::{ReachAnswer, StrongAnswer};
-use runtable::{at, front, part};
-use std::io;
+use rules::NetworkLists;
+use runtable::{at, front, part, rows};
+use std::{array, io};
 
-// A yes as 1, and a no as 0.
-fn value(yes: bool) -> usize {
-    if yes { 1 } else { 0 }
-}
-
-// What STRONG says.
-fn show_strong(rt: &impl Print, answer: StrongAnswer) -> io::Result<()> {
-    match answer {
-        StrongAnswer::Done { yes } => done(rt, value(yes)),
-        StrongAnswer::Refused(t) => refused(rt, t),
-    }
-}
-
-// What REACH says.
-fn show_reach(rt: &impl Print, answer: ReachAnswer) -> io::Result<()> {
-    match answer {
-        ReachAnswer::Done { yes } => done(rt, value(yes)),
-        ReachAnswer::Refused(t) => refused(rt, t),
-    }
-}
-
-// How many elements of the work memory are not zero, and the end of the line.
-fn show_rest(rt: &impl Print, work: &[u16; 28673]) -> io::Result<()> {
-    number(rt, others(work, 0))?;
-    printing::line_end(rt)
-}
-
-// The withdrawn numbers of a row.
-fn withdrawn<'a>(given: &'a [u16]) -> &'a [u16] {
-    part(given, 15, at(given, 14))
-}
-
-// Asks STRONG, and prints the line after its label.
-fn ask_strong(rt: &impl Print, given: &[u16], tails: &[u16], heads: &[u16]) -> io::Result<()> {
-    let mut work = [7; 28673];
-    let lent = front(&mut work, at(given, 5));
-    show_strong(
-        rt,
-        strong(at(given, 4), tails, heads, withdrawn(given), lent),
-    )?;
-    show_rest(rt, &work)
-}
-
-// Asks REACH, and prints the line after its label.
-fn ask_reach(rt: &impl Print, given: &[u16], tails: &[u16], heads: &[u16]) -> io::Result<()> {
-    let mut work = [7; 28673];
-    let lent = front(&mut work, at(given, 5));
-    let answer = reach(
-        at(given, 4),
+// Asks a row's question about a network, and prints the line after its label.
+fn ask(rt: &impl Print, given: &[u16], tails: &[u16], heads: &[u16]) -> io::Result<()> {
+    let net = NetworkLists {
+        zones: at(given, 4),
         tails,
         heads,
-        withdrawn(given),
-        at(given, 2),
-        at(given, 3),
-        lent,
-    );
-    show_reach(rt, answer)?;
-    show_rest(rt, &work)
-}
-
-// Asks a row's question.
-fn ask(rt: &impl Print, given: &[u16], tails: &[u16], heads: &[u16]) -> io::Result<()> {
-    if at(given, 1) == 0 {
-        ask_strong(rt, given, tails, heads)
-    } else {
-        ask_reach(rt, given, tails, heads)
-    }
-}
-
-// The elements are i + by, around 1,024 zones.
-fn fill(list: &mut [u16], by: usize) {
-    let mut i = 0;
-    while i < list.len() {
-        list[i] = ((i % 1024 + by % 1024) % 1024) as u16;
-        i += 1;
-    }
+        gone: part(given, 15, at(given, 14)),
+    };
+    let mut work = [7; 28673];
+    let lent = front(&mut work, at(given, 5));
+    // Kept (1): the table's text has this number, and an enum would be made of it only to be matched here.
+    let answer = match at(given, 1) {
+        0 => strong(net, lent),
+        _ => reach(net, at(given, 2), at(given, 3), lent),
+    };
+    printing::answer(rt, answer.map(usize::from))?;
+    println!(rt; " {}", printing::others(&work, 0))
 }
 
 // Asks about 1,024 zones and 4,096 arcs.
 fn largest(rt: &impl Print, given: &[u16]) -> io::Result<()> {
-    let mut tails = [0u16; 4096];
-    let mut heads = [0u16; 4096];
-    fill(&mut tails, 0);
-    fill(&mut heads, at(given, 8));
+    let by = at(given, 8);
+    let tails: [u16; 4096] = array::from_fn(|i| (i % 1024) as u16);
+    let heads: [u16; 4096] = array::from_fn(|i| ((i % 1024 + by % 1024) % 1024) as u16);
     ask(rt, given, &tails, &heads)
 }
 
 // Asks about a row's network.
-fn run(rt: &impl Print, given: &[u16; 18]) -> io::Result<()> {
+fn run(rt: &impl Print, given: &[u16]) -> io::Result<()> {
     match at(given, 6) {
         4096 => largest(rt, given),
         4097 => ask(rt, given, &[0; 4097], &[1; 4097]),
         n => ask(rt, given, part(given, 8, n), part(given, 11, at(given, 7))),
     }
-}
-
-// A row.
-fn row(rt: &impl Print, text: &[u8], from: usize) -> io::Result<usize>
-    requires { from < length text.now }
-    ensures { IfOk result (λ next. from < next) }
-{
-    let mut given = [0; 18];
-    let next = runtable::row(rt, text, from, &mut given)?;
-    run(rt, &given)?;
-    Ok(next)
-}
-
-// All rows.
-fn rows(rt: &impl Print, text: &[u8]) -> io::Result<()> {
-    let mut from = 0;
-    while from < text.len() {
-        from = row(rt, text, from)?;
-    }
-    Ok(())
 }
 
 // Each refusal; two troubles at once, of which the first in the order of the tests is told; yes and no; and the largest
@@ -197,5 +114,6 @@ fn main(rt: HostRuntime) -> io::Result<()> {
           two rings, to a zone of the first: 1 0 1022 1024 28672 4096 4096 2;\
           two rings, to a zone of the second: 0 0 0 1024 28672 4096 4096 2;\
           two rings, to a zone of the second: 1 0 1023 1024 28672 4096 4096 2;",
+        |given| run(&rt, given),
     )
 }
