@@ -1,6 +1,5 @@
--- One turn of `descend` in the memory: the top of the stack and its row, and the three stores of a turn.
---   z, wa, wb     the top's zone, its next place and its row's end, as they are read; places count from `rows` on
---   i, h          the step found the zone h at place i behind the next place
+-- One turn of `descend` in the memory: a look along the row of the stack's top has found h and moved the top's next
+-- place on, and h gets its mark and is put on the stack.
 --   turn_went     after the stores the memory is that of the search with h on its stack
 -- The three stores are a next place, a mark and a place of the order; the regions are told apart by their order in the
 -- memory. Assumes nothing.
@@ -10,15 +9,14 @@ use mathlib.Core.List.{List}
 use Prim.Native.Nat.{ℕ, suc, ◌+◌, ◌-◌, ◌≤◌, ◌<◌}
 use native.Mathlib.Omega.{arith}
 use lib.ListN.{length, get_or, set, take, drop, length-set}
-use lib.Seq.{get_or-set_same, get_or-set_other, get_or-drop, drop-set-lt, take-set-le}
+use lib.Seq.{get_or-set_same, get_or-set_other, drop-set-lt, take-set-le}
 use Rattle.workmap.specs.declared.RowsAt.{RowsAt}
 use Rattle.workmap.specs.declared.OrderAt.{OrderAt}
-use Rattle.arranged.specs.Marks.{zeros, Marked, FirstIn}
-use Rattle.std.specs.Prelude.{Some, None}
+use Rattle.arranged.specs.Marks.{zeros, Marked}
 use Rattle.arranged.proofs.Zeros.{zeros_other, zeros_mark}
 use Rattle.memory.specs.Regions.{cell}
-use Rattle.descent.specs.Memory.{Ready, State, OrderKept, Full, Went}
 use Rattle.memory.proofs.Places.{behind}
+use Rattle.descent.specs.Memory.{Ready, State, OrderKept, Went, Advanced}
 use Rattle.descent.proofs.Keeping.{order_kept_then}
 use Rattle.descent.proofs.Push.{deeper}
 
@@ -61,78 +59,63 @@ module _ (w : List ℕ) {w' : List ℕ} (p q r x y u : ℕ) (made : w' ≡ set (
   three_take n a b c = rw made (
       take-set-le n (set (set w p x) q y) r u c ∙ take-set-le n (set w p x) q y b ∙ take-set-le n w p x a)
 
--- the stack has a top, and its zone z, its next place wa and its row's end wb were read
-module _ {w₀ w : List ℕ} {R : RowsAt} {O : OrderAt} {lo hi : ℕ} (P : Ready w R O) (V : Went w₀ w R O lo hi)
-    {z wa wb : ℕ}
-    (ez : z ≡ cell w O.order hi) (ea : wa ≡ cell w O.next z) (eb : wb ≡ get_or w (R.starts + z + 1) 0) where
+-- the stack has a top, and the look along its row has found h
+module _ {w₀ w w₁ : List ℕ} {R : RowsAt} {O : OrderAt} {lo hi h : ℕ} (P : Ready w R O) (V : Went w₀ w R O lo hi)
+    (A : Advanced w w₁ R O hi h) where
+  -- the top
+  abbrev z : ℕ
+  z = cell w O.order hi
+
   -- The top is a zone.
   z_zone : z < R.zones
-  z_zone = rw ez (V.state.deep.zone hi (inr (omega arith, V.top)))
-
-  -- Its row ends at wb.
-  stop_is : get_or (drop R.starts w) (z + 1) 0 ≡ wb
-  stop_is = get_or-drop R.starts w (z + 1) 0 ∙ ap (λ (n : ℕ). get_or w n 0) (omega arith) ∙ sym eb
-
-  -- Its next place is not before its row's start.
-  start_le : get_or (drop R.starts w) z 0 ≤ wa
-  start_le = omega (arith, V.state.deep.from z z_zone, ea)
-
-  -- Its row lies in the memory.
-  pub b_fits : R.rows + wb ≤ length w
-  b_fits = rw stop_is at (P.fits z z_zone)
+  z_zone = V.state.deep.zone hi (inr (omega arith, V.top))
 
   -- An element of the rows, read from the part behind the starts.
   row_at : (i : ℕ) → R.rows ≤ i → get_or (drop R.starts w) (i - R.starts) 0 ≡ get_or w i 0
   row_at i l = behind w R.starts i (omega (arith, P.starts_before))
 
-  -- Its heads are zones.
-  pub z_heads : (i : ℕ) → R.rows + wa ≤ i → i < R.rows + wb → get_or w i 0 < R.zones
-  z_heads i l h = rw (row_at i (omega arith)) at
-      (P.sound.heads z i z_zone (omega (arith, start_le)) (omega (arith, stop_is)))
+  -- It stands behind the starts that h is at its place.
+  head_is : get_or (drop R.starts w) (A.place - R.starts) 0 ≡ h
+  head_is = row_at A.place (omega (arith, A.low)) ∙ A.is
 
-  -- Where the step finds nothing, all heads of the top have marks.
-  pub z_full : FirstIn w (R.rows + wa) (R.rows + wb) O.seen None → Full w R O hi
-  z_full F i = rw (sym ez, sym ea, stop_is) (λ l h. rw (row_at i (omega arith)) (F i l h))
+  -- h is a zone.
+  pub h_zone : h < R.zones
+  h_zone = rw head_is at (P.sound.heads z A.place z_zone (omega (arith, V.state.deep.from z z_zone, A.low)) A.high)
 
-  -- the step found h at place i, and the three stores are done
-  module _ (i : ℕ) {h : ℕ} {w' : List ℕ} (eh : h ≡ get_or w (R.rows + wa + i) 0)
-      (F : FirstIn w (R.rows + wa) (R.rows + wb) O.seen (Some i))
-      (made : w' ≡ set
-      (set (set w (O.next + z) (R.rows + wa + i + 1 - R.rows)) (O.seen + h) (lo + (R.zones - hi) + 1))
-      (O.order + (hi - 1)) h) where
-    -- h is a zone.
-    pub h_zone : h < R.zones
-    h_zone = rw eh (z_heads (R.rows + wa + i) (omega arith) F.0)
+  -- The regions lie one behind the other.
+  lay : (O.seen + R.zones ≤ O.next)
+      × ((O.next + R.zones ≤ O.order) × ((O.order + R.zones ≤ R.starts) × (R.starts ≤ length w)))
+  lay = (P.apart, (P.before, (P.order_before, omega (arith, P.starts_before, P.inside))))
 
-    -- h has no mark.
-    free : get_or w (O.seen + h) 0 ≡ 0
-    free = rw eh F.1.0
+  -- After the first two stores one mark more is set.
+  fewer_two : suc
+      (zeros (set (set w (O.next + z) (A.place + 1 - R.rows)) (O.seen + h) (lo + (R.zones - hi) + 1))
+      O.seen R.zones) ≡ zeros w O.seen R.zones
+  fewer_two =
+      zeros_mark (set w (O.next + z) (A.place + 1 - R.rows)) O.seen R.zones h
+      (lo + (R.zones - hi) + 1)
+      (λ e. omega arith) h_zone (simp length-set (omega (arith, lay)))
+      (get_or-set_other w (O.next + z) (O.seen + h) (A.place + 1 - R.rows) 0
+      (λ e. omega (arith, h_zone, lay)) ∙ A.free)
+      ∙ zeros_other w (O.next + z) (A.place + 1 - R.rows) O.seen R.zones (inr (omega (arith, lay)))
 
-    -- The regions lie one behind the other.
-    lay : (O.seen + R.zones ≤ O.next)
-        × ((O.next + R.zones ≤ O.order) × ((O.order + R.zones ≤ R.starts) × (R.starts ≤ length w)))
-    lay = (P.apart, (P.before, (P.order_before, omega (arith, P.starts_before, P.inside))))
+  -- There is room for one more on the stack.
+  pub room : lo < hi
+  room = omega (arith, fewer_two, V.state.room)
 
-    -- After the first two stores one mark more is set.
-    fewer_two : suc
-        (zeros (set (set w (O.next + z) (R.rows + wa + i + 1 - R.rows)) (O.seen + h) (lo + (R.zones - hi) + 1))
-        O.seen R.zones) ≡ zeros w O.seen R.zones
-    fewer_two =
-        zeros_mark (set w (O.next + z) (R.rows + wa + i + 1 - R.rows)) O.seen R.zones h
-        (lo + (R.zones - hi) + 1)
-        (λ e. omega arith) h_zone (simp length-set (omega (arith, lay)))
-        (get_or-set_other w (O.next + z) (O.seen + h) (R.rows + wa + i + 1 - R.rows) 0
-        (λ e. omega (arith, h_zone, lay)) ∙ free)
-        ∙ zeros_other w (O.next + z) (R.rows + wa + i + 1 - R.rows) O.seen R.zones (inr (omega (arith, lay)))
+  -- h gets its mark, and is put on the stack
+  module _ {w' : List ℕ}
+      (stored : w' ≡ set (set w₁ (O.seen + h) (lo + (R.zones - hi) + 1)) (O.order + (hi - 1)) h) where
+    -- The three stores of a turn.
+    made : w' ≡ set
+        (set (set w (O.next + z) (A.place + 1 - R.rows)) (O.seen + h) (lo + (R.zones - hi) + 1))
+        (O.order + (hi - 1)) h
+    made = rw A.made at stored
 
-    -- After the third, still.
+    -- One mark more is set.
     fewer : suc (zeros w' O.seen R.zones) ≡ zeros w O.seen R.zones
     fewer = rw made (
         ap suc (zeros_other _ (O.order + (hi - 1)) h O.seen R.zones (inr (omega (arith, lay)))) ∙ fewer_two)
-
-    -- There is room for one more on the stack.
-    pub room : lo < hi
-    room = omega (arith, fewer_two, V.state.room)
 
     -- Elsewhere the memory has what it had.
     other : (j : ℕ) → j ≢ O.next + z → j ≢ O.seen + h → j ≢ O.order + (hi - 1) → get_or w' j 0 ≡ get_or w j 0
@@ -157,18 +140,15 @@ module _ {w₀ w : List ℕ} {R : RowsAt} {O : OrderAt} {lo hi : ℕ} (P : Ready
         (λ e. omega (arith, lay, z_zone)) (λ e. omega (arith, lay, h_zone)) (λ e. ne (omega arith))
 
     -- The top's next place has moved on behind h.
-    moved : R.rows + cell w' O.next (cell w O.order hi) ≡ R.rows + wa + i + 1
-    moved = rw (
-      sym ez,
-      three_first w (O.next + z) (O.seen + h) (O.order + (hi - 1)) _ _ _ made
-          (omega (arith, lay, z_zone)) (λ e. omega (arith, lay, h_zone)) (λ e. omega (arith, lay, z_zone)),
-    ) (omega arith)
+    moved : R.rows + cell w' O.next z ≡ A.place + 1
+    moved = rw (three_first w (O.next + z) (O.seen + h) (O.order + (hi - 1)) _ _ _ made
+        (omega (arith, lay, z_zone)) (λ e. omega (arith, lay, h_zone)) (λ e. omega (arith, lay, z_zone)))
+        (omega (arith, A.low))
 
     -- The other next places are kept.
-    moved_other : (v : ℕ) → v < R.zones → v ≢ cell w O.order hi
-        → R.rows + cell w' O.next v ≡ R.rows + cell w O.next v
+    moved_other : (v : ℕ) → v < R.zones → v ≢ z → R.rows + cell w' O.next v ≡ R.rows + cell w O.next v
     moved_other v l ne = ap (λ (n : ℕ). R.rows + n) (other (O.next + v)
-        (λ e. ne (omega (arith, ez))) (λ e. omega (arith, lay, h_zone)) (λ e. omega (arith, lay)))
+        (λ e. ne (omega arith)) (λ e. omega (arith, lay, h_zone)) (λ e. omega (arith, lay)))
 
     -- The rows are kept.
     back : drop R.starts w' ≡ drop R.starts w
@@ -182,25 +162,13 @@ module _ {w₀ w : List ℕ} {R : RowsAt} {O : OrderAt} {lo hi : ℕ} (P : Ready
       front = three_take w (O.next + z) (O.seen + h) (O.order + (hi - 1)) _ _ _ made O.seen
           (omega (arith, lay)) (omega arith) (omega (arith, lay));
       back = back;
-      more = λ v l m e. m (sym (mark_other v l (λ q. m (ap (cell w O.seen) q ∙ free))) ∙ e);
+      more = λ v l m e. m (sym (mark_other v l (λ q. m (ap (cell w O.seen) q ∙ A.free))) ∙ e);
     }
 
-    -- The found place is not before the top's next place.
-    low : R.rows + cell w O.next (cell w O.order hi) ≤ R.rows + wa + i
-    low = rw (sym ez, sym ea) (omega arith)
-
-    -- It lies in the top's row.
-    high : R.rows + wa + i < R.rows + get_or (drop R.starts w) (cell w O.order hi + 1) 0
-    high = rw (sym ez, stop_is) F.0
-
-    -- It holds h.
-    is : get_or (drop R.starts w) (R.rows + wa + i - R.starts) 0 ≡ h
-    is = row_at (R.rows + wa + i) (omega arith) ∙ sym eh
-
-    -- The heads before it have marks.
-    prior : (k : ℕ) → R.rows + cell w O.next (cell w O.order hi) ≤ k → k < R.rows + wa + i
+    -- The heads before h have marks.
+    prior : (k : ℕ) → R.rows + cell w O.next z ≤ k → k < A.place
         → Marked w O.seen (get_or (drop R.starts w) (k - R.starts) 0)
-    prior k = rw (sym ez, sym ea) (λ l m. rw (row_at k (omega arith)) (F.1.1 k l m))
+    prior k l m = rw (row_at k (omega arith)) (A.prior k l m)
 
     -- A turn leaves the memory of the search with h on its stack.
     turn_state : State w' R O lo (hi - 1)
@@ -210,7 +178,7 @@ module _ {w₀ w : List ℕ} {R : RowsAt} {O : OrderAt} {lo hi : ℕ} (P : Ready
       deep = rw back (deeper P.sound (cell w O.seen) (cell w' O.seen) (cell w O.order) (cell w' O.order)
           (λ v. R.rows + cell w O.next v) (λ v. R.rows + cell w' O.next v) V.state.deep
           (omega (arith, room)) (omega (arith, room))
-          V.top low high is prior free mark mark_other put put_other moved moved_other);
+          V.top A.low A.high head_is prior A.free mark mark_other put put_other moved moved_other);
     }
 
     -- The stack has a top again, and what was kept until now is kept.

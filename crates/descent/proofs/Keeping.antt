@@ -1,9 +1,9 @@
 -- What the first pass keeps of the memory, and what is then still ready.
---   kept_none, order_kept_then   what keeps nothing and then nothing keeps both
+--   order_kept_then        what two steps keep, both keep together
 --   ready_kept             the rows stand behind all that changes, so the memory stays ready
 --   spans                  where the regions end
 -- Assumes nothing.
-use mathlib.Core.Path.{refl, ◌∙◌}
+use mathlib.Core.Path.{◌∙◌}
 use mathlib.Core.List.{List}
 use Prim.Native.Nat.{ℕ, ◌+◌, ◌≤◌, ◌<◌}
 use native.Mathlib.Omega.{arith}
@@ -11,10 +11,6 @@ use lib.ListN.{length}
 use Rattle.workmap.specs.declared.RowsAt.{RowsAt}
 use Rattle.workmap.specs.declared.OrderAt.{OrderAt}
 use Rattle.descent.specs.Memory.{Ready, OrderKept}
-
--- Where nothing changes, all is kept.
-pub kept_none : (w : List ℕ) (R : RowsAt) (O : OrderAt) → OrderKept w w R O
-kept_none w R O = record { long = refl; front = refl; back = refl; more = λ v l m. m }
 
 -- What two steps keep, both keep together.
 pub order_kept_then : {w w' w'' : List ℕ} {R : RowsAt} {O : OrderAt}

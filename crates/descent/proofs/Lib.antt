@@ -2,4 +2,5 @@
 pub mod Entries
 pub mod Push
 pub mod Keeping
+pub mod Looking
 pub mod Down

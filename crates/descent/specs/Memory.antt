@@ -4,7 +4,7 @@
 --   O.seen    when each zone was seen, 0 where it was not: its mark
 --   O.next    for each zone the next place of its row, counted from where the rows begin
 --   O.order   the zones that have ended from the left, the stack from the right
-use Rattle.std.specs.Prelude.{◌≡◌, List, ℕ, ◌+◌, ◌-◌, ◌≤◌, ◌<◌, length, get_or, take, drop}
+use Rattle.std.specs.Prelude.{◌≡◌, List, ℕ, ◌+◌, ◌-◌, ◌≤◌, ◌<◌, length, get_or, set, take, drop, Option, Some, None}
 use Rattle.workmap.specs.declared.RowsAt.{RowsAt}
 use Rattle.workmap.specs.declared.OrderAt.{OrderAt}
 use Rattle.arranged.specs.Rows.{Sound, Entry, rows_of}
@@ -46,6 +46,23 @@ Full w R O r =
     R.rows + cell w O.next (cell w O.order r) ≤ i →
     i < R.rows + get_or (drop R.starts w) (cell w O.order r + 1) 0 →
     Marked w O.seen (get_or (drop R.starts w) (i - R.starts) 0)
+
+-- h is the first head with no mark of the zone at place t of the order, from its next place on, which has moved on
+-- behind it
+pub record Advanced (w w' : List ℕ) (R : RowsAt) (O : OrderAt) (t h : ℕ) : Type 0 where
+  pub place : ℕ
+  pub low : R.rows + cell w O.next (cell w O.order t) ≤ place
+  pub high : place < R.rows + get_or (drop R.starts w) (cell w O.order t + 1) 0
+  pub is : get_or w place 0 ≡ h
+  pub free : cell w O.seen h ≡ 0
+  pub prior : (k : ℕ) → R.rows + cell w O.next (cell w O.order t) ≤ k → k < place
+      → Marked w O.seen (get_or w k 0)
+  pub made : w' ≡ set w (O.next + cell w O.order t) (place + 1 - R.rows)
+
+-- there is such a head, or nothing has changed and all heads have marks
+abbrev pub Advancing : List ℕ → List ℕ → RowsAt → OrderAt → ℕ → Option ℕ → Type 0
+Advancing w w' R O t (Some h) = Advanced w w' R O t h
+Advancing w w' R O t None = (w' ≡ w) × Full w R O t
 
 -- after going down: the stack's top is at r
 pub record Went (w w' : List ℕ) (R : RowsAt) (O : OrderAt) (lo r : ℕ) : Type 0 where

@@ -6,10 +6,26 @@
 //     lo            how many zones have ended;   hi   where in the order's region the stack's top stands
 #![tactic(auto)]
 
-ghost use Rattle.std.specs.Prelude.{◌<◌};
-ghost use Rattle.descent.specs.Memory.{Ready, State, Full, Went};
+ghost use Rattle.std.specs.Prelude.{ℕ, ◌<◌};
+ghost use Rattle.descent.specs.Memory.{Ready, State, Full, Went, Advancing};
 
 use workmap::{OrderAt, RowsAt};
+
+// The first head with no mark of the zone at place `top` of the order, from its next place on, which moves on behind
+// this head; None where all these heads have marks.
+fn advance(work: &mut [u16], rows: RowsAt, at: OrderAt, top: usize) -> Option<u16>
+    requires ready { Ready work.old rows at }
+    requires top_lt_zones { (top < rows.zones) × ((lo : ℕ) × State work.old rows at lo top) }
+    ensures { Advancing work.old work.new rows at top result }
+{
+    let z = usize::from(work[at.order + top]);
+    let a = rows.rows + usize::from(work[at.next + z]);
+    let b = rows.rows + usize::from(work[rows.starts + z + 1]);
+    let i = arranged::step(work, a, b, at.seen, rows.zones)?;
+    let h = work[a + i];
+    work[at.next + z] = (a + i + 1 - rows.rows) as u16;
+    Some(h)
+}
 
 // Goes down from the top of the stack along unmarked zones. Answers where the new top is: all its heads have marks.
 pub fn descend(work: &mut [u16], rows: RowsAt, at: OrderAt, lo: usize, from: usize) -> usize
@@ -19,18 +35,10 @@ pub fn descend(work: &mut [u16], rows: RowsAt, at: OrderAt, lo: usize, from: usi
         × Full work.new rows at result }
 {
     let mut hi = from;
-    // Kept (3): how far the stack grows is what the loop finds out, so no range is known beforehand.
-    loop {
-        let z = usize::from(work[at.order + hi]);
-        let a = rows.rows + usize::from(work[at.next + z]);
-        let b = rows.rows + usize::from(work[rows.starts + z + 1]);
-        let Some(i) = arranged::step(work, a, b, at.seen, rows.zones) else {
-            return hi;
-        };
-        let h = work[a + i];
-        work[at.next + z] = (a + i + 1 - rows.rows) as u16;
+    while let Some(h) = advance(work, rows, at, hi) {
         work[at.seen + usize::from(h)] = (lo + (rows.zones - hi) + 1) as u16;
         hi -= 1;
         work[at.order + hi] = h;
     }
+    hi
 }

@@ -4,12 +4,12 @@ use Rattle.descent.specs.Memory.{Ready, Went}
 use Rattle.descent.proofs.descend.Given as goal
 
 -- what every turn of the loop keeps
-abbrev pub invariant-loop-i : goal.invariant-loop-i
-invariant-loop-i l = record {
+abbrev pub invariant-loop-h : goal.invariant-loop-h
+invariant-loop-h l = record {
   ready : Ready l.work l.rows l.at;
   went : Went l.initial.work l.work l.rows l.at l.lo l.hi;
 }
 
 -- what every turn of the loop makes smaller: the room that is left for the stack
-abbrev pub decreases-loop-i : goal.decreases-loop-i
-decreases-loop-i l = l.hi
+abbrev pub decreases-loop-h : goal.decreases-loop-h
+decreases-loop-h l = l.hi
