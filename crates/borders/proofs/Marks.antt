@@ -1,7 +1,7 @@
 -- The memory while arcs are noted.
 --   names_around            names stay;   room_around   so the memory keeps its room
 --   noted_same, noted_read  an arc whose ends have one name changes nothing; another raises two places
---   marking_none, marking_more   no arc is noted yet; one more is
+--   marking_more            one arc more is noted
 -- The place of a name c is raised by an arc exactly where the arc's one end has the name c and the other has not.
 -- Assumes nothing.
 use mathlib.Core.Path.{◌≡◌, refl, sym, ◌∙◌}
@@ -21,7 +21,7 @@ use Rattle.memory.specs.Regions.{cell}
 use Rattle.memory.proofs.Regions.{at_kept}
 use Rattle.memory.proofs.Numbers.{same?}
 use Rattle.arccounts.proofs.Heads.{arcs_more}
-use Rattle.borders.specs.Borders.{comes, goes, raised, Around, KindsRoom, Noted, Marking, Markable}
+use Rattle.borders.specs.Borders.{comes, goes, raised, Around, KindsRoom, Noted, Marking}
 use Rattle.borders.proofs.Tests.{raised_one}
 
 -- Names are kept.
@@ -133,15 +133,6 @@ module _
               (λ e. rw e exited_put)
               (λ e. other (k.exited + c) (λ q. omega (arith, low, R.entered_low)) (λ q. e (omega arith))));
         }
-
--- No arc is noted yet.
-pub marking_none : {k : KindsAt} {ts hs w : List ℕ} → Markable k ts hs w → Marking k (arcs_of ts hs) 0 w w
-marking_none M =
-    record {
-      around = record { long = refl; back = refl };
-      entered = M.entered_clear;
-      exited = M.exited_clear;
-    }
 
 -- What two steps change lies before the same place.
 around_then : {k : KindsAt} {w w' w'' : List ℕ} → Around k w w' → Around k w' w'' → Around k w w''

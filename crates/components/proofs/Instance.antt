@@ -32,7 +32,8 @@ rows : ArrangedAt memory (row_places 2 24 27) (arcs_of (0 ∷ []) (1 ∷ []))
 unfolding arcs_of zip_with heads_of tails_below
 rows = record {
   order = omega arith;
-  start = λ z l. three (λ z. get_or (drop 24 memory) z 0 ≡ tails_below z (arcs_of (0 ∷ []) (1 ∷ []))) z l refl refl refl;
+  start = λ z l. three (λ z. get_or (drop 24 memory) z 0 ≡ tails_below z (arcs_of (0 ∷ []) (1 ∷ [])))
+      z l refl refl refl;
   row = λ z l. two (λ z. take (length (heads_of z (arcs_of (0 ∷ []) (1 ∷ []))))
       (drop (3 + tails_below z (arcs_of (0 ∷ []) (1 ∷ []))) (drop 24 memory)) ≡ heads_of z (arcs_of (0 ∷ []) (1 ∷ [])))
       z l refl refl;
@@ -43,7 +44,8 @@ turned : ArrangedAt memory (row_places 2 28 31) (arcs_of (1 ∷ []) (0 ∷ []))
 unfolding arcs_of zip_with heads_of tails_below
 turned = record {
   order = omega arith;
-  start = λ z l. three (λ z. get_or (drop 28 memory) z 0 ≡ tails_below z (arcs_of (1 ∷ []) (0 ∷ []))) z l refl refl refl;
+  start = λ z l. three (λ z. get_or (drop 28 memory) z 0 ≡ tails_below z (arcs_of (1 ∷ []) (0 ∷ [])))
+      z l refl refl refl;
   row = λ z l. two (λ z. take (length (heads_of z (arcs_of (1 ∷ []) (0 ∷ []))))
       (drop (3 + tails_below z (arcs_of (1 ∷ []) (0 ∷ []))) (drop 28 memory)) ≡ heads_of z (arcs_of (1 ∷ []) (0 ∷ [])))
       z l refl refl;

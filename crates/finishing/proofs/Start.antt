@@ -137,10 +137,6 @@ module _ {w w' : List ℕ} {R : RowsAt} {O : OrderAt} {lo r : ℕ} (P : Ready w 
     more = λ v l m e. m (sym (mark_other v l (λ q. m (ap (cell w O.seen) q ∙ free))) ∙ e);
   }
 
-  -- r has a mark.
-  pub start_marked : Marked w' O.seen r
-  start_marked e = omega (arith, mark)
-
   -- Not all zones have ended.
   start_room : lo < R.zones
   start_room = omega (arith, fewer, S.room)

@@ -1,10 +1,10 @@
 -- One zone more is tried for a list of names.
 --   kind_kept, room_kept    names that are put leave what was noted, and the zones' names
---   list_none               no zone is tried yet;   list_room   one more may be tried
+--   list_room               one more may be tried
 --   list_skip, list_put     one more is tried, and it is not of the kind, or it is
 --   listable_next, list_same   one list after the other: the second is as if it were the first
 -- The idea: what is put lies apart from what the tests read. Assumes nothing.
-use mathlib.Core.Path.{◌≡◌, refl, sym, ap, ◌∙◌}
+use mathlib.Core.Path.{◌≡◌, sym, ap, ◌∙◌}
 use mathlib.Core.Logic.{inr, ⊎_elim}
 use mathlib.Core.Bool.{true, false}
 use mathlib.Core.List.{List}
@@ -61,10 +61,6 @@ module _ {k : KindsAt} {to : ℕ} {w : List ℕ} (L : Listable k to w) (xs : Lis
         fits = omega (arith, length-sets w to xs, L.room.fits);
         zone = λ v h. rw (names_kept v h) (L.room.zone v h);
       }
-
--- no zone is tried yet
-pub list_none : (k : KindsAt) (x y to : ℕ) (w : List ℕ) → Listing k x y to 0 0 w w
-list_none k x y to w = record { memory = refl; count = refl }
 
 -- the first z zones were tried, and what passed stands from `to` on in w'
 module _

@@ -1,6 +1,6 @@
 -- The turns of the naming: the zone v gets the lowest zone with its root, which is the one that is noted for the
 -- root, or v itself where none is.
---   naming_none, naming_more   the start, and a turn;   first_one   the lowest zone of a root is one zone
+--   naming_more   a turn;   first_one   the lowest zone of a root is one zone
 -- Assumes nothing.
 use mathlib.Core.Path.{◌≡◌, sym, ap, ◌∙◌}
 use mathlib.Core.Logic.{◌⊎◌, inl, inr, ◌≢◌}
@@ -15,15 +15,6 @@ first_one {a = a} {b = b} f g e = elim (below? a b) [
   | inl l ↦ absurd (g.least a l e)
   | inr l ↦ elim (same? a b) [ inl q ↦ q | inr q ↦ absurd (f.least b (omega arith) (sym e)) ]
 ]
-
--- No zone has a name, and nothing is noted.
-pub naming_none : (root low names : ℕ → ℕ) {zones : ℕ} → ((r : ℕ) → r < zones → low r ≡ 0)
-    → Naming root low names zones 0
-naming_none root low names clear = record {
-  known = λ r x l e. absurd (omega (arith, clear r l));
-  unknown = λ r t l e h y. omega arith;
-  named = λ u l. absurd (omega arith);
-}
 
 -- the zone v, whose root number is r + 1, gets the name x, which was noted or is v and is noted now
 module _ {root low : ℕ → ℕ} (low' : ℕ → ℕ) {names : ℕ → ℕ} (names' : ℕ → ℕ) {zones v r x : ℕ}

@@ -8,16 +8,6 @@ use Rattle.memory.proofs.Numbers.{same?}
 use Rattle.search.specs.Marking.{Queued}
 use Rattle.naming.specs.Picks.{Rise, Picks}
 
--- Nothing is picked of no elements.
-pub picks_none : (q names t : ℕ → ℕ) → Picks q names t 0 0
-picks_none q names t = record {
-  few = omega arith;
-  own = λ j l. absurd (omega arith);
-  from = λ j l. absurd (omega arith);
-  rising = λ j k l h. absurd (omega arith);
-  all = λ i l e. absurd (omega arith);
-}
-
 -- An element stands among more elements.
 queued_more : {q : ℕ → ℕ} {n v : ℕ} → Queued q 0 n v → Queued q 0 (n + 1) v
 queued_more s = record { at = s.at; low = s.low; high = omega (arith, s.high); is = s.is }

@@ -2,8 +2,8 @@
 -- its mark, and `deepen` ends it. Assumes nothing.
 use mathlib.Core.Path.{refl}
 use borrow.Author.Rules.{rules}
-use Rattle.descent.proofs.Keeping.{order_kept_then, ready_kept}
-use Rattle.finishing.proofs.Start.{start_kept, start_marked, start_state}
+use Rattle.descent.proofs.Keeping.{ready_kept}
+use Rattle.finishing.proofs.Start.{start_kept, start_state}
 use Rattle.finishing.proofs.begin.Goals as goal
 
 -- What `deepen` asks for is so.
@@ -16,16 +16,4 @@ deepen-requires c =
         search rules,
         start_state s.ready s.r_lt_zones.1 s.r_lt_zones.0 c.if-work-at-ne0.false refl,
       );
-    }
-
--- What is answered is as the contract says.
-pub returns : goal.returns
-returns c =
-    let s = c.requires in
-    record {
-      kept = order_kept_then (start_kept s.ready s.r_lt_zones.1 s.r_lt_zones.0 c.if-work-at-ne0.false refl)
-          c.deepen.ensures.0;
-      state = c.deepen.ensures.1;
-      first = c.deepen.ensures.0.more c.args.r s.r_lt_zones.0
-          (start_marked s.ready s.r_lt_zones.1 s.r_lt_zones.0 c.if-work-at-ne0.false refl);
     }

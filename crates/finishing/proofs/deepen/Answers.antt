@@ -1,34 +1,24 @@
-use borrow.Author.Rules.{rules}
 use native.Mathlib.Omega.{arith}
 use mathlib.Core.Path.{◌≡◌, refl}
-use Rattle.descent.proofs.Keeping.{kept_none, order_kept_then, ready_kept}
+use Rattle.descent.proofs.Keeping.{order_kept_then, ready_kept}
 use Rattle.finishing.proofs.Up.{pop_kept, pop_state}
 use Rattle.finishing.proofs.deepen.Goals as goal
-
--- The invariant holds where the loop begins.
-pub loop-hi-init : goal.loop-hi-init
-loop-hi-init c = (kept_none _ _ _, c.requires.zones_nonzero.1)
-
--- What `descend` asks for is so.
-pub descend-hi-requires : goal.descend-hi-requires
-descend-hi-requires c =
-    record {
-      ready = ready_kept c.requires.ready c.loop-hi.invariant.0;
-      from_lt_zones = (search rules, c.loop-hi.invariant.1);
-    }
 
 -- Every turn keeps the invariant.
 pub loop-hi-preserved : goal.loop-hi-preserved
 loop-hi-preserved c =
+    let v = c.loop-hi.invariant in
     let y = c.descend-hi.ensures in
-    let K = order_kept_then c.loop-hi.invariant.0 y.0.kept in
-    let R = ready_kept c.requires.ready K in (
-      order_kept_then K (pop_kept R y.0.state y.0.top y.1 refl),
-      pop_state R y.0.state y.0.top y.1 refl,
-    )
+    let R = ready_kept v.ready y.0.kept in
+    record {
+      ready = ready_kept R (pop_kept R y.0.state y.0.top y.1 refl);
+      kept = order_kept_then (order_kept_then v.kept y.0.kept) (pop_kept R y.0.state y.0.top y.1 refl);
+      state = pop_state R y.0.state y.0.top y.1 refl;
+    }
 
 -- What is answered is as the contract says.
 pub returns : goal.returns
 returns c =
-    let e : c.loop-hi.hi ≡ c.args.rows.zones = omega (arith, c.loop-hi.invariant.1.end) in
-    (c.loop-hi.invariant.0, rw e at c.loop-hi.invariant.1)
+    let v = c.loop-hi.invariant in
+    let e : c.loop-hi.hi ≡ c.args.rows.zones = omega (arith, v.state.end) in
+    (v.kept, rw e at v.state)

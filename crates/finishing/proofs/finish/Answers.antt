@@ -1,15 +1,8 @@
 -- `finish` meets its contract: after the copy the search has not begun, and beginning at every zone ends them all.
 -- Assumes nothing.
-use native.Mathlib.Omega.{arith}
-use Rattle.descent.proofs.Keeping.{order_kept_then, ready_kept, spans}
+use Rattle.descent.proofs.Keeping.{order_kept_then, ready_kept}
 use Rattle.finishing.proofs.Start.{copy_kept, copy_begun}
 use Rattle.finishing.proofs.finish.Goals as goal
-
--- What `copy` asks for is so.
-pub copy-requires : goal.copy-requires
-copy-requires c =
-    let R = c.requires.ready in
-    record { apart = omega (arith, R, R.order_before); fits = omega (arith, spans R) }
 
 -- What `begin_all` asks for is so.
 pub begin_all-requires : goal.begin_all-requires

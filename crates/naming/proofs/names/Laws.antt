@@ -3,7 +3,7 @@
 --   a     the root number of v, as it is read
 --   w'    the memory after `note`
 -- Assumes nothing.
-use mathlib.Core.Path.{◌≡◌, refl, ap, ◌∙◌}
+use mathlib.Core.Path.{◌≡◌, ap, ◌∙◌}
 use mathlib.Core.Logic.{◌⊎◌, inl, inr, ◌≢◌}
 use mathlib.Core.List.{List}
 use Prim.Native.Nat.{ℕ, ◌+◌, ◌-◌, ◌≤◌, ◌<◌}
@@ -14,16 +14,7 @@ use Rattle.workmap.specs.declared.NamesAt.{NamesAt}
 use Rattle.memory.specs.Regions.{cell}
 use Rattle.memory.proofs.Regions.{at_kept}
 use Rattle.naming.specs.Names.{RootNoted, ZonesNameable, ZonesNamed}
-use Rattle.naming.proofs.Noting.{naming_none, naming_more}
-
--- No zone has its name yet.
-pub named_none : {w : List ℕ} {zones : ℕ} {K : NamesAt} → ZonesNameable w zones K → ZonesNamed w w zones K 0
-named_none {w} {K = K} R = record {
-  long = refl;
-  front = refl;
-  back = refl;
-  naming = naming_none (cell w K.roots) (cell w K.low) (cell w K.names) R.clear;
-}
+use Rattle.naming.proofs.Noting.{naming_more}
 
 -- the root number of v was read
 module _ {w₀ w : List ℕ} {zones v a : ℕ} {K : NamesAt} (R : ZonesNameable w₀ zones K)

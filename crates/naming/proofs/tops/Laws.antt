@@ -1,6 +1,6 @@
 -- One turn of `list_names` in the memory: the zone at place n of the queue is listed where it is its own name.
 -- Assumes nothing.
-use mathlib.Core.Path.{◌≡◌, refl, sym, ap, ◌∙◌}
+use mathlib.Core.Path.{◌≡◌, sym, ap, ◌∙◌}
 use mathlib.Core.Logic.{◌≢◌}
 use mathlib.Core.List.{List}
 use Prim.Native.Nat.{ℕ, ◌+◌, ◌<◌}
@@ -11,16 +11,7 @@ use Rattle.workmap.specs.declared.NamesAt.{NamesAt}
 use Rattle.memory.specs.Regions.{cell}
 use Rattle.memory.proofs.Regions.{at_kept}
 use Rattle.naming.specs.Tops.{TopsListable, TopsListed}
-use Rattle.naming.proofs.Picking.{picks_none, picks_skip, picks_more}
-
--- Nothing is listed yet.
-pub listed_none : (w : List ℕ) (zones : ℕ) (K : NamesAt) → TopsListed w w zones K 0 0
-listed_none w zones K = record {
-  long = refl;
-  front = refl;
-  back = refl;
-  picks = picks_none (cell w K.queue) (cell w K.names) (cell w K.tops);
-}
+use Rattle.naming.proofs.Picking.{picks_skip, picks_more}
 
 -- place n of the queue comes next
 module _ {w₀ w : List ℕ} {zones n m : ℕ} {K : NamesAt} (R : TopsListable w₀ zones K)
