@@ -7,8 +7,9 @@ use Prim.Native.Nat.{ℕ}
 use mathlib.Core.Path.{◌≡◌, refl, sym, ap}
 use mathlib.Core.List.{List, [], ◌∷◌}
 use lib.ListN.{length}
+use Rattle.std.specs.Prelude.{Ok, Err}
 use Rattle.rules.specs.declared.Trouble.{Trouble}
-use Rattle.rules.specs.declared.ReadAnswer.{ReadAnswer}
+use Rattle.rules.specs.declared.FileCounts.{FileCounts}
 use Rattle.rules.specs.Answers.{Told, done, refused, read_told}
 use Rattle.rules.specs.Number.{Reading, got, bad}
 use Rattle.rules.specs.File.{Given, file_at}
@@ -17,16 +18,16 @@ use Rattle.rules.specs.Calls.{found_says}
 use Rattle.theory.proofs.Files.AnswerLaws.{refused_once, done_not_refused}
 
 -- a file that was read: the network that was found, with its counts
-pub record Found (s : List ℕ) (a b n m : ℕ) : Type 0 where
+pub record Found (s : List ℕ) (a b : ℕ) (c : FileCounts) : Type 0 where
   pub given : Given
   pub end : ℕ
   pub finds : file_at s a b ≡ got given end
-  pub zones : given.zones ≡ n
-  pub count : length given.arcs ≡ m
+  pub zones : given.zones ≡ c.zones
+  pub count : length given.arcs ≡ c.arcs
 
 module _ (s ts hs : List ℕ) where
   -- an answer that refuses says the trouble that reading finds
-  pub read_refused : (t : Trouble) → read_told (ReadAnswer.Refused t) ≡ found_says (file_at s (length ts) (length hs))
+  pub read_refused : (t : Trouble) → read_told (Err t) ≡ found_says (file_at s (length ts) (length hs))
       → file_at s (length ts) (length hs) ≡ bad t
   read_refused t e = go (file_at s (length ts) (length hs)) e
     where
@@ -35,15 +36,15 @@ module _ (s ts hs : List ℕ) where
       go (got g end) e = absurd (done_not_refused 2 _ t (sym e))
 
   -- an answer of two counts says those of the network that reading finds
-  pub read_done : (n m : ℕ) → read_told (ReadAnswer.Done n m) ≡ found_says (file_at s (length ts) (length hs))
-      → Found s (length ts) (length hs) n m
-  read_done n m e = go (file_at s (length ts) (length hs)) refl e
+  pub read_done : (c : FileCounts) → read_told (Ok c) ≡ found_says (file_at s (length ts) (length hs))
+      → Found s (length ts) (length hs) c
+  read_done c e = go (file_at s (length ts) (length hs)) refl e
     where
-      go : (r : Reading Given) → file_at s (length ts) (length hs) ≡ r → done (n ∷ m ∷ []) ≡ found_says r
-          → Found s (length ts) (length hs) n m
+      go : (r : Reading Given) → file_at s (length ts) (length hs) ≡ r → done (c.zones ∷ c.arcs ∷ []) ≡ found_says r
+          → Found s (length ts) (length hs) c
       go (bad u) f e = absurd (done_not_refused 2 _ u e)
       go (got g end) f e =
-          let v : n ∷ m ∷ [] ≡ g.zones ∷ length g.arcs ∷ [] = ap (λ (a : Told). a.values) e in
+          let v : c.zones ∷ c.arcs ∷ [] ≡ g.zones ∷ length g.arcs ∷ [] = ap (λ (a : Told). a.values) e in
           record { given = g; end = end; finds = f; zones = cc; count = cc }
 
 -- a file that is refused prints the line of its trouble

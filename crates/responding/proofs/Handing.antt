@@ -13,9 +13,10 @@ use mathlib.Core.List.{List, map}
 use lib.ListN.{length, take, drop, length-append, length-map}
 use lib.Seq.{take_at}
 use Rattle.rules.specs.declared.Trouble.{Trouble}
-use Rattle.rules.specs.declared.ReadAnswer.{ReadAnswer}
+use Rattle.rules.specs.declared.FileCounts.{FileCounts}
+use Rattle.std.specs.Prelude.{Ok, Err}
 use Rattle.rules.specs.Lists.{over}
-use Rattle.rules.specs.Answers.{read_told}
+use Rattle.rules.specs.Answers.{ReadAnswer, read_told}
 use Rattle.rules.specs.Network.{Arc, arc_tails, arc_heads}
 use Rattle.rules.specs.File.{Given, Acceptable, file_at}
 use Rattle.rules.specs.Number.{Reading}
@@ -24,6 +25,8 @@ use Rattle.rules.specs.Promises.{ReadPromise}
 use Rattle.theory.proofs.Ground.ArcLists.{arcs_split}
 use Rattle.rules.specs.Text.{printed, plan_lines, refusal_line}
 use Rattle.theory.proofs.Files.FileLaws.{accepted_acceptable}
+use Rattle.buffer.specs.declared.Page.{Page}
+use Rattle.buffer.specs.Put.{HasSpace}
 use Rattle.responding.specs.Buffers.{PlanLent, handed_lines}
 use Rattle.responding.proofs.Found.{read_refused, read_done, printed_refused, printed_done}
 use Rattle.responding.proofs.Accepted.{network_passes}
@@ -50,15 +53,15 @@ column_part f es old {xs} {m} e l =
 module _ {s ts hs ts' hs' : List ℕ} {a : ReadAnswer} (k : ReadPromise s ts hs ts' hs' (read_told a))
     (x : length ts ≡ 4096) (y : length hs ≡ 4096) where
   -- a file that was refused prints the line of the trouble
-  pub refused_prints : {t : Trouble} → a ≡ ReadAnswer.Refused t → printed s ≡ refusal_line t
+  pub refused_prints : {t : Trouble} → a ≡ Err t → printed s ≡ refusal_line t
   refused_prints {t} e =
       let f = read_refused s ts hs t (sym (ap read_told e) ∙ k.told_is) in
       printed_refused s (rw (x, y) at f)
 
   -- a file that was read hands on its network
-  pub read_hands : {n m : ℕ} → a ≡ ReadAnswer.Done n m → Handed s n m ts' hs'
-  read_hands {n} {m} e =
-      let f = read_done s ts hs n m (sym (ap read_told e) ∙ k.told_is) in
+  pub read_hands : {c : FileCounts} → a ≡ Ok c → Handed s c.zones c.arcs ts' hs'
+  read_hands {c} e =
+      let f = read_done s ts hs c (sym (ap read_told e) ∙ k.told_is) in
       let es = f.given.arcs in
       let t_is : ts' ≡ over (arc_tails es) ts = k.tails ∙ ap (λ (r : Reading Given). found_tails r ts) f.finds in
       let h_is : hs' ≡ over (arc_heads es) hs = k.heads ∙ ap (λ (r : Reading Given). found_heads r hs) f.finds in
@@ -76,9 +79,9 @@ module _ {s ts hs ts' hs' : List ℕ} {a : ReadAnswer} (k : ReadPromise s ts hs 
       }
 
 module _ {s : List ℕ} {n m : ℕ} {ts hs : List ℕ} (k : Handed s n m ts hs) where
-  -- the network that was read passes its tests, and the buffer has room
-  pub handed_plannable : (out : List ℕ) → 20000 ≤ length out → PlanLent n (take m ts) (take m hs) out
-  handed_plannable out o =
+  -- the network that was read passes its tests, and the page has room
+  pub handed_plannable : (page : Page) → HasSpace page 20000 → PlanLent n (take m ts) (take m hs) page
+  handed_plannable page o =
       record {
         fine = rw (k.tails, k.heads, sym k.zones) (network_passes k.given k.acceptable);
         lines_fit = o;

@@ -1,23 +1,21 @@
 -- The lines of a plan, from what PLAN answers and leaves.
---   responded         bytes put at the start of a buffer that are those to print
+--   responded         a text put on a page with none, which is the text to print
 --   planned           where the network passes every test, what is put for the answer of PLAN fits and is its lines
 -- Where there is no trouble the promise of PLAN is its values and the plan over what was there. Assumes nothing.
-use Prim.Native.Nat.{ℕ, ◌+◌, ◌≤◌}
+use Prim.Native.Nat.{ℕ, ◌≤◌}
 use native.Mathlib.Nat.{zero-add}
 use native.Mathlib.Omega.{arith}
 use mathlib.Core.Path.{◌≡◌, refl, sym, ap, ◌∙◌}
 use mathlib.Core.List.{List, [], ◌++◌, map}
 use mathlib.Core.Option.{none, some}
-use lib.ListN.{length, take, drop, length-append, length-map}
-use lib.Seq.{take_at}
-use Rattle.rules.specs.declared.PlanAnswer.{PlanAnswer}
+use lib.ListN.{length, drop, length-append, length-map}
+use Rattle.std.specs.Prelude.{Ok, Err}
 use Rattle.rules.specs.Lists.{over}
 use Rattle.rules.specs.Network.{Network}
-use Rattle.rules.specs.Components.{sources, sinks, alone}
 use Rattle.rules.specs.File.{Given}
 use Rattle.rules.specs.Text.{printed}
-use Rattle.rules.specs.Plan.{Link, why_number, link_starts, link_ends, link_whys, plan, plan_pairs, plan_need}
-use Rattle.rules.specs.Answers.{plan_told}
+use Rattle.rules.specs.Plan.{Link, why_number, link_starts, link_ends, link_whys, plan, plan_need}
+use Rattle.rules.specs.Answers.{PlanAnswer, plan_told}
 use Rattle.rules.specs.Calls.{arcs_of, handed, network_tests, plan_trouble}
 use Rattle.rules.specs.Promises.{PlanPromise}
 use Rattle.theory.proofs.Ground.ArcLists.{arcs_length}
@@ -29,26 +27,24 @@ use Rattle.theory.proofs.Demands.Calls.{LinkLists, PlanCall}
 use Rattle.theory.proofs.Demands.Answers.{plan_done_when, plan_refused_when}
 use Rattle.theory.proofs.Demands.Plans.{plan_leaves}
 use Rattle.theory.proofs.Planning.Few.{need_few}
-use Rattle.buffer.specs.Put.{put, Written}
+use Rattle.buffer.specs.declared.Page.{Page}
+use Rattle.buffer.specs.Put.{put, HasSpace, Appended}
 use Rattle.lines.specs.Lines.{lines_of}
-use Rattle.text.specs.Texts.{plan_text, Putable, figures, answer_lines}
-use Rattle.text.proofs.TextLaws.{figures_of, plan_put}
-use Rattle.responding.specs.Buffers.{IsPrefixLen, handed_lines, Responded}
+use Rattle.text.specs.Texts.{plan_text, Putable, answer_lines}
+use Rattle.text.proofs.TextLaws.{file_counts_of, plan_counts_of, plan_put}
+use Rattle.responding.specs.Buffers.{handed_lines, Responded}
 
--- bytes put at the start of a buffer are its first bytes, and where they are those that are printed, all is done
-pub responded : {file out s after : List ℕ} {r : ℕ} → s ≡ printed file → Written out 0 s r after
-    → IsPrefixLen r after × Responded file out r after
+-- a text that is put on a page with none is the buffer's first bytes, and where it is what is printed, all is done
+pub responded : {file out s : List ℕ} {p q : Page} → p.len ≡ 0 → p.bytes.now ≡ out → s ≡ printed file
+    → Appended p s q → Responded file out q.len q.bytes.now
 unfolding put
-responded {file} {out} {s} {after} {r} e w =
-    let rest : List ℕ = drop (0 + length s) out in
-    let stop : length s ≡ r = omega (arith, w.stop) in
-    let front : take r after ≡ s = ap (take r) w.buffer ∙ take_at s rest r stop in
-    let long : length after ≡ length s + length rest = ap length w.buffer ∙ length-append s rest in
-    let fits : r ≤ length after = omega (arith, stop, long) in
-    let bytes : after ≡ over s out = w.buffer ∙ ap (λ (k : ℕ). s ++ drop k out) (zero-add (length s)) in (
-      (fits, sym (ap length front ∙ stop)),
-      record { count = sym stop ∙ ap length e; bytes = bytes ∙ ap (λ (x : List ℕ). over x out) e },
-    )
+responded {file} {out} {s} {p} {q} empty begun e w =
+    let bytes : q.bytes.now ≡ over s out =
+    w.buffer ∙ rw (empty, begun) (ap (λ (k : ℕ). s ++ drop k out) (zero-add (length s))) in
+    record {
+      count = w.stop ∙ rw empty (zero-add (length s) ∙ ap length e);
+      bytes = bytes ∙ ap (λ (x : List ℕ). over x out) e;
+    }
 
 -- a list with a column of k links over what was there has k elements or more
 column_fits : (f : Link → ℕ) (ls : List Link) (old : List ℕ) {xs : List ℕ} {k : ℕ} → xs ≡ over (map f ls) old
@@ -84,8 +80,7 @@ module _ (n : ℕ) (ts hs starts ends whys work : List ℕ)
 
   -- the lines put over what PLAN leaves are those of the rules
   lines_are :
-      plan_text
-      (figures n (length ts) (length (sources N)) (length (sinks N)) (length (alone N)) (plan_pairs N) (plan_need N))
+      plan_text (record { zones = n; arcs = length ts }) (plan_counts_of N)
       (lines_of (over (link_starts (plan N)) starts) (over (link_ends (plan N)) ends) (over (link_whys (plan N)) whys)
       (plan_need N))
       ≡ handed_lines n ts hs
@@ -95,7 +90,7 @@ module _ (n : ℕ) (ts hs starts ends whys work : List ℕ)
       rw (sym (arcs_length ts hs network_fine.paired))
       (ap
       (λ (k : ℕ).
-      plan_text (figures_of g)
+      plan_text (file_counts_of g) (plan_counts_of N)
       (lines_of (over (link_starts (plan N)) starts) (over (link_ends (plan N)) ends) (over (link_whys (plan N)) whys)
       k))
       (sym links_are)
@@ -115,18 +110,19 @@ module _ (n : ℕ) (ts hs starts ends whys work : List ℕ)
   }
 
   -- PLAN's answer and what it leaves: they fit into 20,000 bytes, and what is put for them is the lines of the plan
-  pub planned : (a : PlanAnswer) {f' t' y' w' : List ℕ} (out : List ℕ) → 20000 ≤ length out
+  pub planned : (a : PlanAnswer) {f' t' y' w' : List ℕ} (page : Page) → HasSpace page 20000
       → PlanPromise n ts hs [] starts ends whys work f' t' y' w' (plan_told a)
-      → Putable a f' t' y' out × (answer_lines n (length ts) a f' t' y' ≡ handed_lines n ts hs)
-  planned (PlanAnswer.Refused t) out l k =
-      let some_trouble : none ≡ some t = sym e ∙ (plan_refused_when (called (PlanAnswer.Refused t) k)).0 refl in
+      → Putable a f' t' y' page
+      × (answer_lines (record { zones = n; arcs = length ts }) a f' t' y' ≡ handed_lines n ts hs)
+  planned (Err t) page l k =
+      let some_trouble : none ≡ some t = sym e ∙ (plan_refused_when (called (Err t) k)).0 refl in
       let never : ◌≡◌ {A = ℕ} 0 1 = cc in
       absurd (omega arith)
-  planned (PlanAnswer.Done s t q p need) out l k =
-      let c = called (PlanAnswer.Done s t q p need) k in
+  planned (Ok p) page l k =
+      let c = called (Ok p) k in
       let same = handed_none n ts hs in
       let counts = rw same at ((plan_done_when c).0 refl).1 in
-      let count : length (plan N) ≡ need = links_are ∙ sym counts.need_is in
+      let count : length (plan N) ≡ p.need = links_are ∙ sym counts.need_is in
       let left = rw same at (plan_leaves c e) in
       let starts_are = ap (λ (x : LinkLists). x.from) left in
       let ends_are = ap (λ (x : LinkLists). x.to) left in

@@ -1,5 +1,5 @@
 -- What the two functions are lent, and what is put into the buffer.
---   PlanLent ..      a network that passes its tests, with room for the lines of its plan
+--   PlanLent ..      a network that passes its tests, with a page that has room for the lines of its plan
 --   handed_lines ..   the lines of the plan of a network that is handed in
 --   Responded ..      what is promised of the whole: the bytes that linkplan writes, and how many they are
 --   IsPrefixLen n xs  so many bytes stand at the start of a buffer
@@ -8,12 +8,14 @@ use Rattle.std.proofs.Math.Option.{none}
 use Rattle.rules.specs.Lists.{over}
 use Rattle.rules.specs.Calls.{arcs_of, first_trouble, network_tests}
 use Rattle.rules.specs.Text.{plan_lines, printed}
+use Rattle.buffer.specs.declared.Page.{Page}
+use Rattle.buffer.specs.Put.{HasSpace}
 
--- the network of n zones, tails ts and heads hs, with none withdrawn, passes its tests, and the buffer has room for the
+-- the network of n zones, tails ts and heads hs, with none withdrawn, passes its tests, and the page has room for the
 -- lines of its plan
-pub record PlanLent (n : ℕ) (ts hs out : List ℕ) : Type 0 where
+pub record PlanLent (n : ℕ) (ts hs : List ℕ) (page : Page) : Type 0 where
   pub fine : first_trouble (network_tests n ts hs []) ≡ none
-  pub lines_fit : 20000 ≤ length out
+  pub lines_fit : HasSpace page 20000
 
 -- the buffer xs has n bytes or more, and so its first n are n
 abbrev pub IsPrefixLen : ℕ → List ℕ → Type 0

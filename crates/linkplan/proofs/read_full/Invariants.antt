@@ -1,5 +1,5 @@
--- `linkplan::read_full` meets its contract: no more was read than the list holds, and the list begins with what was
--- read. The measure is what is left to read. Assumes nothing.
+-- `linkplan::read_full` meets its contract: the list begins with what was read. The measure is what is left to read.
+-- Assumes nothing.
 use Rattle.std.proofs.Common.{length, take, ◌≤◌, ◌-◌}
 use Rattle.std.specs.Io.KnownBytes.{Consumes}
 use Rattle.linkplan.proofs.read_full.Given as goal

@@ -9,11 +9,11 @@ returns c =
     let most = zeros_long 1024 in
     let passes = plan_passes _ _ _ _ _ _ _ _ c.requires.fine (zeros_long 28672) most most most in
     rw
-    (planned _ _ _ _ _ _ _ passes c.plan-answer.result c.args.out.now c.requires.lines_fit c.plan-answer.ensures).1
+    (planned _ _ _ _ _ _ _ passes c.plan-answer.result c.args.page.now c.requires.lines_fit c.plan-answer.ensures).1
     at c.put_answer.ensures
 
 pub put_answer-requires : goal.put_answer-requires
 put_answer-requires c =
     let most = zeros_long 1024 in
     (planned _ _ _ _ _ _ _ (plan_passes _ _ _ _ _ _ _ _ c.requires.fine (zeros_long 28672) most most most)
-    c.plan-answer.result c.args.out.now c.requires.lines_fit c.plan-answer.ensures).0
+    c.plan-answer.result c.args.page.now c.requires.lines_fit c.plan-answer.ensures).0

@@ -6,19 +6,20 @@ use Rattle.responding.proofs.Accepted.{zeros_are}
 use Rattle.responding.proofs.Lines.{responded}
 use Rattle.responding.proofs.Handing.{refused_prints, read_hands, handed_plannable, handed_prints}
 use Rattle.responding.proofs.respond.Goals as goal
+use Rattle.responding.proofs.respond.Goals.{in-Err, in-Ok}
 
-pub returns-in-Refused : goal.returns-in-Refused
-returns-in-Refused c =
-    let prints = refused_prints c.read.ensures (zeros_are 4096) (zeros_are 4096) c.in-Refused.is in
-    let told = responded (sym prints) c.refuse.ensures in
-    record { responded = told.1; prefix_len = told.0 }
+pub returns-clause-responded : goal.returns-clause-responded
+returns-clause-responded c =
+    let page = c.new-page.ensures in
+    elim c.match-read.branch [
+      | in-Err w ↦
+          let prints = refused_prints c.read.ensures (zeros_are 4096) (zeros_are 4096) w.in-Err.is in
+          rw (c.written.ensures, w.page-is) (responded page.empty page.buffer (sym prints) w.put_refusal.ensures)
+      | in-Ok w ↦
+          let handed = read_hands c.read.ensures (zeros_are 4096) (zeros_are 4096) w.in-Ok.is in
+          rw (c.written.ensures, w.page-is) (responded page.empty page.buffer (handed_prints handed) w.put_planned.ensures)
+    ]
 
 pub put_planned-requires : goal.put_planned-requires
 put_planned-requires c =
-    handed_plannable (read_hands c.read.ensures (zeros_are 4096) (zeros_are 4096) c.in-Done.is) _ (search rules)
-
-pub returns-in-Done : goal.returns-in-Done
-returns-in-Done c =
-    let handed = read_hands c.read.ensures (zeros_are 4096) (zeros_are 4096) c.in-Done.is in
-    let told = responded (handed_prints handed) c.put_planned.ensures in
-    record { responded = told.1; prefix_len = told.0 }
+    handed_plannable (read_hands c.read.ensures (zeros_are 4096) (zeros_are 4096) c.in-Ok.is) _ (search rules)
