@@ -12,6 +12,7 @@ use descent::descend;
 use workmap::{OrderAt, RowsAt};
 
 // Ends every zone on the stack, which has one. Answers how many zones have ended.
+// Kept (5): `rows` and `at` stay two parameters, as the second pass takes the order with the turned rows.
 fn deepen(work: &mut [u16], rows: RowsAt, at: OrderAt, ended: usize) -> usize
     requires ready { Ready work.old rows at }
     requires zones_nonzero { (0 < rows.zones) × State work.old rows at ended (rows.zones - 1) }
