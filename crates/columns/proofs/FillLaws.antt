@@ -2,6 +2,7 @@
 --   filled_length     filling keeps the list's length
 --   columns_record    the record of index i of three columns is the record of the link of index i
 --   filled_is         filling from the columns of links gives their records, and past them what was there
+--   filled_front      filling the front of a list leaves what stands behind it
 -- The first k records of a filled list are the first k of the links, by induction on k.
 -- Assumes nothing.
 use mathlib.Core.Path.{◌≡◌, refl, sym, ap, ◌∙◌}
@@ -11,6 +12,7 @@ use native.Mathlib.Nat.{not-suc-le-zero, le_of_suc-le-suc}
 use native.Mathlib.Omega.{arith}
 use lib.ListN.{length, get_or, set, take, drop, length-set, length-map}
 use lib.Seq.{take-length}
+use Rattle.std.proofs.lemmas.List.{set-append_left}
 use Rattle.rules.specs.Plan.{ring, chain, back, why_number, why_of, why_numbered, record_of}
 use Rattle.rules.specs.Plan as Plan
 use Rattle.rules.specs.Lists.{over}
@@ -87,3 +89,12 @@ module _ (w : List ℕ) (at : LinksAt) (ls : List Plan.Link) (starts_held : Hold
       filled_first (length ls) (omega arith)
       ∙ ap (λ (k : ℕ). take k (map record_of ls) ++ drop k xs) (sym (length-map ls record_of))
       ∙ ap (λ (l : List Link). l ++ drop (length (map record_of ls)) xs) (take-length (map record_of ls))
+
+-- filling the front of a list leaves what stands behind it
+pub filled_front : (w : List ℕ) (at : LinksAt) (xs ys : List Link) (k : ℕ) → k ≤ length xs →
+    filled w at (xs ++ ys) k ≡ filled w at xs k ++ ys
+unfolding filled
+filled_front w at xs ys zero h = refl
+filled_front w at xs ys (suc k) h =
+    ap (λ (l : List Link). set l k (link_at w at k)) (filled_front w at xs ys k (omega arith))
+    ∙ set-append_left (filled w at xs k) ys k (link_at w at k) (omega (arith, filled_length w at xs k))

@@ -1,5 +1,4 @@
 -- The records that PLAN leaves, and the three lists that PLAN over lists leaves, have the same links.
---   number_of y           the number of a record's why
 --   SameColumns k ..     the first k records are, column by column, the first k elements of three lists
 --   records_columns       they are after PLAN over records and PLAN over lists, k being the number that is answered
 -- Without a trouble both put the plan in front of what was lent; with one the answer carries no links.
@@ -10,37 +9,30 @@ use mathlib.Core.Option.{Option, none, some}
 use Prim.Native.Nat.{ℕ, min}
 use lib.ListN.{length, get_or, take, drop, length-map}
 use lib.Seq.{take_at}
-use Rattle.rules.specs.declared.PlanAnswer.{PlanAnswer}
 use Rattle.rules.specs.Lists.{over}
 use Rattle.rules.specs.declared.Trouble.{Trouble}
-use Rattle.rules.specs.Answers.{Told, plan_told}
+use Rattle.std.specs.Prelude.{Ok, Err}
+use Rattle.rules.specs.Answers.{Told, PlanAnswer, plan_told}
 use Rattle.rules.specs.Network.{Network}
-use Rattle.rules.specs.Plan.{ring, chain, back, why_number, why_of, record_of, plan, plan_values}
+use Rattle.rules.specs.Plan.{ring, chain, back, why_number, why_of, record_why_number, record_of, plan, plan_values}
 use Rattle.rules.specs.Plan as Plan
 use Rattle.rules.specs.Calls.{handed_with, says, plan_trouble, records_trouble}
 use Rattle.rules.specs.Promises.{PlanPromise, RecordsPromise}
 use Rattle.theory.proofs.Planning.PlanCount.{plan_length}
 use Rattle.theory.proofs.Files.Accepting.{fine_with_proper}
-use Rattle.rules.specs.declared.Why.{Why}
 use Rattle.rules.specs.declared.Link.{Link}
-use Rattle.drafts.specs.Drafts.{need_of}
-use Rattle.drafts.proofs.Answering.{draft_ready}
-use Rattle.drafts.proofs.Rooms.{rooms_tested}
-
--- the number of a record's why
-abbrev pub number_of : Why → ℕ
-number_of Why.Ring = 0
-number_of Why.Chain = 1
-number_of Why.Back = 2
+use Rattle.records.specs.Needs.{need_of}
+use Rattle.records.proofs.Answering.{records_ready}
+use Rattle.records.proofs.Rooms.{rooms_tested}
 
 -- the first k records are, column by column, the first k elements of three lists
 pub record SameColumns (k : ℕ) (ls : List Link) (from to why : List ℕ) : Type 0 where
   pub starts : map (λ (l : Link). l.from) (take k ls) ≡ take k from
   pub ends : map (λ (l : Link). l.to) (take k ls) ≡ take k to
-  pub whys : map (λ (l : Link). number_of l.why) (take k ls) ≡ take k why
+  pub whys : map (λ (l : Link). record_why_number l.why) (take k ls) ≡ take k why
 
 -- the number of the why of a link is that of its record's why
-why_again : (y : Plan.Why) → number_of (why_of y) ≡ why_number y
+why_again : (y : Plan.Why) → record_why_number (why_of y) ≡ why_number y
 why_again ring = refl
 why_again chain = refl
 why_again back = refl
@@ -62,8 +54,8 @@ front f g e ps ls xs =
 
 -- the number of links that an answer carries is the last number that it says
 need_told : (a : PlanAnswer) → need_of a ≡ get_or (plan_told a).values 4 0
-need_told (PlanAnswer.Done s t q p need) = refl
-need_told (PlanAnswer.Refused t) = refl
+need_told (Ok c) = refl
+need_told (Err t) = refl
 
 module _ (n : ℕ) (ts hs gone from to why w : List ℕ) (ls : List Link) (a b : PlanAnswer)
     {w₁ from₂ to₂ why₂ w₂ : List ℕ} {ls₁ : List Link}
@@ -93,7 +85,7 @@ module _ (n : ℕ) (ts hs gone from to why w : List ℕ) (ls : List Link) (a b :
       same_at 0 (rw e at need_said) (record { starts = refl; ends = refl; whys = refl })
   same_after none e =
       let N : Network = handed_with n ts hs gone in
-      let count = plan_length (fine_with_proper n ts hs gone (draft_ready n ts hs gone (length ls) w e).0.fine) in
+      let count = plan_length (fine_with_proper n ts hs gone (records_ready e).0.fine) in
       let f : plan_trouble n ts hs gone from to why w ≡ none = trouble_same ∙ e in
       let left = rw e at P.links_left in
       same_at (length (plan N)) (rw e at need_said ∙ sym count)

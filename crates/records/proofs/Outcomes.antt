@@ -6,15 +6,14 @@ use mathlib.Core.Path.{◌≡◌, refl, sym, ◌∙◌}
 use mathlib.Core.List.{List}
 use Prim.Native.Nat.{ℕ, min}
 use lib.ListN.{length}
-use Rattle.rules.specs.declared.PlanAnswer.{PlanAnswer}
-use Rattle.rules.specs.Answers.{plan_told}
+use Rattle.rules.specs.Answers.{PlanAnswer, plan_told}
 use Rattle.rules.specs.Plan.{plan_values}
 use Rattle.rules.specs.Calls.{handed_with, says, leaves_work, plan_trouble, records_trouble}
 use Rattle.rules.specs.Promises.{PlanPromise, RecordsPromise}
 use Rattle.theory.proofs.Files.AnswerLaws.{plan_told_once}
 use Rattle.rules.specs.declared.Link.{Link}
-use Rattle.drafts.specs.Drafts.{need_of}
-use Rattle.drafts.proofs.Rooms.{rooms_tested}
+use Rattle.records.specs.Needs.{need_of}
+use Rattle.records.proofs.Rooms.{rooms_tested}
 use Rattle.records.proofs.Contents.{SameColumns, records_columns}
 
 module _ (n : ℕ) (ts hs gone from to why w : List ℕ) (room : ℕ)

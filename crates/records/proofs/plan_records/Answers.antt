@@ -1,13 +1,34 @@
--- `records::plan_records` meets its contract: the filling asks what the draft left, and the records filled from it and
--- the work memory cleared are what is promised. Assumes nothing.
-use Rattle.drafts.proofs.Answering.{fill_asks, drafted_promise}
+-- `records::plan_records` meets its contract: without a trouble the records are filled from the plan that was laid
+-- out, and the work memory is cleared. Assumes nothing.
+use mathlib.Core.Path.{sym}
+use Rattle.workmap.proofs.Places.{placed}
+use Rattle.records.proofs.Answering.{records_ready, readable, records_done}
+use Rattle.theory.proofs.Files.Accepting.{fine_few}
+use native.Mathlib.Omega.{arith}
 use Rattle.records.proofs.plan_records.Goals as goal
 
-pub fill_links-requires : goal.fill_links-requires
-fill_links-requires c = fill_asks _ c.draft-answer.ensures c.need_of.ensures
-
-pub clear_draft-requires : goal.clear_draft-requires
-clear_draft-requires c = c.draft-answer.ensures.finishable
-
 pub returns : goal.returns
-returns c = drafted_promise c.draft-answer.ensures c.need_of.ensures c.fill_links.ensures c.clear_draft.ensures
+returns c =
+    records_done c.map_of-m.ensures (sym c.in_ok-records.ensures) c.lay-counts.ensures c.fill_links.ensures
+    c.clear.ensures
+
+-- without a trouble the input passes the tests
+pub map_of-m-requires : goal.map_of-m-requires
+map_of-m-requires c =
+    let f = (records_ready (sym c.in_ok-records.ensures)).0.fine in
+    record { zones_bound = f.fine.accepted.zones_most; arcs_bound = fine_few f.fine }
+
+pub lay-counts-requires : goal.lay-counts-requires
+lay-counts-requires c = rw c.map_of-m.ensures (records_ready (sym c.in_ok-records.ensures)).0
+
+-- the columns lie in the memory, and there are as many records as links
+pub fill_links-requires : goal.fill_links-requires
+fill_links-requires c =
+    let p = records_ready (sym c.in_ok-records.ensures) in
+    readable c.map_of-m.ensures p.0 p.1 c.lay-counts.ensures
+
+pub clear-requires : goal.clear-requires
+clear-requires c =
+    let p = records_ready (sym c.in_ok-records.ensures) in
+    let b = placed c.map_of-m.ensures in
+    omega (arith, p.0.ready.room, c.lay-counts.ensures.long)

@@ -1,3 +1,0 @@
--- Laws of a draft.
-pub mod Answering
-pub mod Rooms

@@ -1,0 +1,2 @@
+-- What an answer of PLAN says of its links.
+pub mod Needs
