@@ -17,7 +17,8 @@ returns-clause-responded c =
           rw (c.written.ensures, w.page-is) (responded page.empty page.buffer (sym prints) w.put_refusal.ensures)
       | in-Ok w ↦
           let handed = read_hands c.read.ensures (zeros_are 4096) (zeros_are 4096) w.in-Ok.is in
-          rw (c.written.ensures, w.page-is) (responded page.empty page.buffer (handed_prints handed) w.put_planned.ensures)
+          rw (c.written.ensures, w.page-is)
+          (responded page.empty page.buffer (handed_prints handed) w.put_planned.ensures)
     ]
 
 pub put_planned-requires : goal.put_planned-requires

@@ -1,4 +1,5 @@
 -- `text::put_answer` meets its contract: the lists are cut behind the links of the plan. Assumes nothing.
+use Prim.Native.Nat.{ℕ}
 use native.Mathlib.Omega.{arith}
 use Rattle.lines.specs.Lines.{lines_of}
 use Rattle.lines.proofs.Links.{lines_length}
@@ -10,7 +11,9 @@ say_plan-requires c =
     let a = c.args in
     let p = c.in-Ok.plan in
     let fit = rw c.in-Ok.is at c.requires in
-    let most = lines_length a.from.now a.to.now a.why.now p.need (λ i. (c.type_inv.from i).fits) (λ i. (c.type_inv.to i).fits) in
+    let small = λ (i : ℕ). (c.type_inv.from i).fits in
+    let little = λ (i : ℕ). (c.type_inv.to i).fits in
+    let most = lines_length a.from.now a.to.now a.why.now p.need small little in
     rw (cut_lines a.from.now a.to.now a.why.now p.need fit.starts_fit)
     (omega (arith, fit.lines_fit, plan_text_length a.file p (lines_of a.from.now a.to.now a.why.now p.need), most))
 

@@ -19,4 +19,5 @@ put_digit-requires-2-clause-room t c =
 
 pub returns : goal.returns
 returns t c =
-    rw (decimal_high c.args.n c.if-n-lt10.false (omega arith)) (appended_then c.put_number.ensures c.put_digit-2.ensures)
+    rw (decimal_high c.args.n c.if-n-lt10.false (omega arith))
+    (appended_then c.put_number.ensures c.put_digit-2.ensures)
