@@ -15,10 +15,10 @@ use Rattle.workmap.specs.declared.OrderAt.{OrderAt}
 use Rattle.arranged.specs.Marks.{zeros, Marked}
 use Rattle.arranged.proofs.Zeros.{zeros_other, zeros_mark}
 use Rattle.memory.specs.Regions.{cell}
-use Rattle.memory.proofs.Places.{behind}
 use Rattle.descent.specs.Memory.{Ready, State, OrderKept, Went, Advanced}
 use Rattle.descent.proofs.Keeping.{order_kept_then}
 use Rattle.descent.proofs.Push.{deeper}
+use Rattle.descent.proofs.Looking.{row_at}
 
 -- a list after three stores
 module _ (w : List ℕ) {w' : List ℕ} (p q r x y u : ℕ) (made : w' ≡ set (set (set w p x) q y) r u) where
@@ -70,13 +70,9 @@ module _ {w₀ w w₁ : List ℕ} {R : RowsAt} {O : OrderAt} {lo hi h : ℕ} (P 
   z_zone : z < R.zones
   z_zone = V.state.deep.zone hi (inr (omega arith, V.top))
 
-  -- An element of the rows, read from the part behind the starts.
-  row_at : (i : ℕ) → R.rows ≤ i → get_or (drop R.starts w) (i - R.starts) 0 ≡ get_or w i 0
-  row_at i l = behind w R.starts i (omega (arith, P.starts_before))
-
   -- It stands behind the starts that h is at its place.
   head_is : get_or (drop R.starts w) (A.place - R.starts) 0 ≡ h
-  head_is = row_at A.place (omega (arith, A.low)) ∙ A.is
+  head_is = row_at P A.place (omega (arith, A.low)) ∙ A.is
 
   -- h is a zone.
   pub h_zone : h < R.zones
@@ -168,7 +164,7 @@ module _ {w₀ w w₁ : List ℕ} {R : RowsAt} {O : OrderAt} {lo hi h : ℕ} (P 
     -- The heads before h have marks.
     prior : (k : ℕ) → R.rows + cell w O.next z ≤ k → k < A.place
         → Marked w O.seen (get_or (drop R.starts w) (k - R.starts) 0)
-    prior k l m = rw (row_at k (omega arith)) (A.prior k l m)
+    prior k l m = rw (row_at P k (omega arith)) (A.prior k l m)
 
     -- A turn leaves the memory of the search with h on its stack.
     turn_state : State w' R O lo (hi - 1)

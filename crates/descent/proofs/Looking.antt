@@ -1,5 +1,6 @@
 -- A look along the row of the zone at place t of the order, in the memory.
 --   z, wa, wb     the zone, its next place and its row's end, as they are read; places count from `rows` on
+--   row_at        an element of the rows, read from the part behind the starts
 --   z_full        where the look finds nothing, all heads have marks
 --   z_advanced    where it finds place i, and the next place is moved on behind it
 -- Assumes nothing.
@@ -18,13 +19,18 @@ use Rattle.memory.specs.Regions.{cell}
 use Rattle.memory.proofs.Places.{behind}
 use Rattle.descent.specs.Memory.{Ready, State, Full, Advanced}
 
+-- An element of the rows, read from the part behind the starts.
+pub row_at : {w : List ℕ} {R : RowsAt} {O : OrderAt} → Ready w R O → (i : ℕ) → R.rows ≤ i
+    → get_or (drop R.starts w) (i - R.starts) 0 ≡ get_or w i 0
+row_at {w} {R} P i l = behind w R.starts i (omega (arith, P.starts_before))
+
 -- place t holds a zone of a deep search's stack, and it, its next place wa and its row's end wb were read
-module _ {w : List ℕ} {R : RowsAt} {O : OrderAt} {lo t : ℕ} (P : Ready w R O) (S : State w R O lo t)
-    (top : t < R.zones) {z wa wb : ℕ}
+module _ {w : List ℕ} {R : RowsAt} {O : OrderAt} {t : ℕ} (P : Ready w R O)
+    (S : (t < R.zones) × ((lo : ℕ) × State w R O lo t)) {z wa wb : ℕ}
     (ez : z ≡ cell w O.order t) (ea : wa ≡ cell w O.next z) (eb : wb ≡ get_or w (R.starts + z + 1) 0) where
   -- It is a zone.
   z_zone : z < R.zones
-  z_zone = rw ez (S.deep.zone t (inr (omega arith, top)))
+  z_zone = rw ez (S.1.1.deep.zone t (inr (omega arith, S.0)))
 
   -- Its row ends at wb.
   stop_is : get_or (drop R.starts w) (z + 1) 0 ≡ wb
@@ -32,28 +38,24 @@ module _ {w : List ℕ} {R : RowsAt} {O : OrderAt} {lo t : ℕ} (P : Ready w R O
 
   -- Its next place is not before its row's start.
   start_le : get_or (drop R.starts w) z 0 ≤ wa
-  start_le = omega (arith, S.deep.from z z_zone, ea)
+  start_le = omega (arith, S.1.1.deep.from z z_zone, ea)
 
   -- Its next place is not behind its row's end.
   pub a_le : wa ≤ wb
-  a_le = omega (arith, S.deep.upto z z_zone, ea, stop_is)
+  a_le = omega (arith, S.1.1.deep.upto z z_zone, ea, stop_is)
 
   -- Its row lies in the memory.
   pub b_fits : R.rows + wb ≤ length w
   b_fits = rw stop_is at (P.fits z z_zone)
 
-  -- An element of the rows, read from the part behind the starts.
-  row_at : (i : ℕ) → R.rows ≤ i → get_or (drop R.starts w) (i - R.starts) 0 ≡ get_or w i 0
-  row_at i l = behind w R.starts i (omega (arith, P.starts_before))
-
   -- Its heads are zones.
   pub z_heads : (i : ℕ) → R.rows + wa ≤ i → i < R.rows + wb → get_or w i 0 < R.zones
-  z_heads i l h = rw (row_at i (omega arith)) at
+  z_heads i l h = rw (row_at P i (omega arith)) at
       (P.sound.heads z i z_zone (omega (arith, start_le)) (omega (arith, stop_is)))
 
   -- Where the look finds nothing, all its heads have marks.
   pub z_full : FirstIn w (R.rows + wa) (R.rows + wb) O.seen None → Full w R O t
-  z_full F i = rw (sym ez, sym ea, stop_is) (λ l h. rw (row_at i (omega arith)) (F i l h))
+  z_full F i = rw (sym ez, sym ea, stop_is) (λ l h. rw (row_at P i (omega arith)) (F i l h))
 
   -- Where it finds place i, the next place is moved on behind it.
   pub z_advanced : (i : ℕ) → FirstIn w (R.rows + wa) (R.rows + wb) O.seen (Some i) → {w' : List ℕ}
