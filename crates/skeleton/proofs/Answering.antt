@@ -9,8 +9,8 @@ use Prim.Native.Nat.{ℕ}
 use lib.Dec.{ltb}
 use lib.ListN.{length}
 use borrow.Author.Tests.{ltb-false}
+use Rattle.std.specs.Prelude.{Ok, Err}
 use Rattle.rules.specs.declared.Trouble.{Trouble}
-use Rattle.rules.specs.declared.SkeletonAnswer.{SkeletonAnswer}
 use Rattle.rules.specs.Answers.{skeleton_told}
 use Rattle.rules.specs.Promises.{SkeletonPromise}
 use Rattle.rules.specs.Calls.{
@@ -48,13 +48,13 @@ module _ (n : ℕ) (ts hs gone ots ohs w : List ℕ) where
 
   -- SKELETON refuses
   pub skeleton_refused : (t : Trouble) → skeleton_trouble n ts hs gone ots ohs w ≡ some t →
-      SkeletonPromise n ts hs gone ots ohs w ots ohs w (skeleton_told (SkeletonAnswer.Refused t))
+      SkeletonPromise n ts hs gone ots ohs w ots ohs w (skeleton_told (Err t))
   skeleton_refused t e = record { told_is = rw e refl; tails = rw e refl; heads = rw e refl; work = rw e refl }
 
   -- SKELETON answers: the skeleton is the same among all numbers and among the zones that remain
   pub skeleton_done : (r : ℕ) (ots' ohs' w' : List ℕ) → skeleton_trouble n ts hs gone ots ohs w ≡ none →
       Sketched n ts hs ots ohs w r ots' ohs' w' →
-      SkeletonPromise n ts hs gone ots ohs w ots' ohs' w' (skeleton_told (SkeletonAnswer.Done r))
+      SkeletonPromise n ts hs gone ots ohs w ots' ohs' w' (skeleton_told (Ok r))
   skeleton_done r ots' ohs' w' e S =
       let same = (fine_with_bridge n ts hs gone (skeleton_sketchable e).1).skeleton_is in
       record {

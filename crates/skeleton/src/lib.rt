@@ -10,8 +10,7 @@ use arranged::ready;
 use components::name_all;
 use drawing::draw;
 use memory::clear;
-use probes::Tested;
-use rules::SkeletonAnswer;
+use rules::{NetworkLists, Trouble};
 use sorting::sort;
 use workmap::map_of;
 
@@ -41,22 +40,16 @@ fn sketch(
 // SKELETON: the arcs of the skeleton, ascending by tail, then by head. Withdrawn zones are at no arc, so only the tests
 // ask for them.
 pub fn skeleton(
-    zones: usize,
-    tails: &[u16],
-    heads: &[u16],
-    gone: &[u16],
+    net: NetworkLists<'_>,
     from: &mut [u16],
     to: &mut [u16],
     work: &mut [u16],
-) -> SkeletonAnswer
-    ensures { SkeletonPromise zones tails.now heads.now gone.now
+) -> Result<usize, Trouble>
+    ensures { SkeletonPromise net.entry.zones net.entry.tails.now net.entry.heads.now net.entry.gone.now
         from.old to.old work.old from.new to.new
         work.new (skeleton_told result) }
 {
-    let t = admission::skeleton(zones, tails, heads, gone, from, to, work);
-    if let Tested::Refused(trouble) = t {
-        return SkeletonAnswer::Refused(trouble);
-    }
-    let count = sketch(zones, tails, heads, from, to, work);
-    SkeletonAnswer::Done { arcs: count }
+    admission::skeleton(net, from, to, work)?;
+    let count = sketch(net.zones, net.tails, net.heads, from, to, work);
+    Ok(count)
 }
