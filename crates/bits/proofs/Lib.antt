@@ -1,4 +1,3 @@
--- Laws of bits: of one number, of a table in a list, and of the loop that joins two rows.
+-- Laws of bits: of one number, and of a table in a list.
 pub mod Numbers
 pub mod Tables
-pub mod Joins

@@ -26,6 +26,7 @@ pub fn set_bit(work: &mut [u16], words: usize, a: usize, b: usize)
 }
 
 // Sets in the row that starts at `into` all bits that are set in the row that starts at `from`.
+#[tactic(auto, unfolding(crate::specs::Bits::with_words))]
 pub fn join(work: &mut [u16], into: usize, from: usize, words: usize)
     requires { (into + words ≤ length work.old) × (from + words ≤ length work.old) }
     ensures { work.new ≡ with_words work.old into from words }
