@@ -1,10 +1,9 @@
 -- One row: its zones without a mark get one and join the queue, one a turn.
---   visit_none               no turn yet
 --   visit_mark               the mark of the next entry lies in the memory
 --   visit_pass               one turn more, at a zone with a mark
 --   visit_join, visit_more   one turn more, at another: two stores, for which there is room
 -- A turn is one zone met, of any search for which runs of entries lead to the zones of the row. Assumes nothing.
-use mathlib.Core.Path.{◌≡◌, refl, sym, ◌∙◌}
+use mathlib.Core.Path.{◌≡◌, sym, ◌∙◌}
 use mathlib.Core.Logic.{inl, inr}
 use mathlib.Core.List.{List}
 use Prim.Native.Nat.{ℕ, ◌+◌, ◌≤◌, ◌<◌}
@@ -15,21 +14,9 @@ use Rattle.workmap.specs.declared.SearchAt.{SearchAt}
 use Rattle.arranged.specs.Marks.{Marked}
 use Rattle.memory.proofs.Numbers.{below?}
 use Rattle.search.specs.Marking.{Visitable, Visited}
-use Rattle.search.proofs.Keeping.{kept_same, kept_then, kept_at}
+use Rattle.search.proofs.Keeping.{kept_then, kept_at}
 use Rattle.search.proofs.Join.{Join, joined_fewer, joined_mark, joined_put_other, joined_more, joined_kept}
 use Rattle.search.proofs.Join.{spreading_join}
-
--- no turn yet
-pub visit_none : (w : List ℕ) (R : RowsAt) (S : SearchAt) (x a tail : ℕ) → Visited w w R S x a a tail tail
-visit_none w R S x a tail =
-    record {
-      kept = kept_same w S.marks S.queue R.zones;
-      room = refl;
-      grown = omega arith;
-      front = λ j l. refl;
-      all = λ i l h. absurd (omega arith);
-      goes_on = λ v from top head G l runs. G;
-    }
 
 module _ {w₀ w : List ℕ} {R : RowsAt} {S : SearchAt} {x from to tail a end : ℕ}
     (A : Visitable w₀ R S x from to tail) (D : Visited w₀ w R S x from a tail end) (under : from ≤ a)

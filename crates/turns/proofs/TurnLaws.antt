@@ -32,8 +32,9 @@ use Rattle.search.proofs.Keeping.{kept_at}
 use Rattle.workmap.specs.declared.RowsAt.{RowsAt}
 use Rattle.workmap.specs.declared.SearchAt.{SearchAt}
 use Rattle.turns.specs.Turn.{Unmarked, FirstMarked, TakenOut, without, Along, Turnable, Turned}
+use Rattle.std.proofs.lemmas.List.Edits.{length-remove}
 use Rattle.turns.proofs.Picking.{pick_none, pick_some}
-use Rattle.turns.proofs.TakeOut.{without_long, without_below, taken_holds}
+use Rattle.turns.proofs.TakeOut.{without_below, taken_holds}
 
 -- the memory with the marks cleared
 abbrev pub wiped : List ℕ → RowsAt → SearchAt → List ℕ
@@ -114,14 +115,10 @@ module _ (w : List ℕ) (R : RowsAt) (S : SearchAt) (source at left : ℕ) (T : 
     sink_zone k h = T.small k (omega (arith, sinks_long))
 
     -- the look along the sinks stays within the memory
-    pub lookable : (at + left ≤ length w')
-        × ((k : ℕ) → k < left → S.marks + get_or w' (at + k) 0 < length w')
-    lookable =
-        let L = T.laid in
-        let long = search_long in (
-          omega (arith, T.before, L.order, L.fits),
-          λ k h. omega (arith, marks_fit, sink_at k h, sink_zone k h),
-        )
+    pub lookable : (k : ℕ) → k < left → S.marks + get_or w' (at + k) 0 < length w'
+    lookable k h =
+        let long = search_long in
+        omega (arith, marks_fit, sink_at k h, sink_zone k h)
 
     -- the arcs es are arranged in the rows
     module _ (es : List Arc) (A : Along w R es) where
@@ -188,7 +185,7 @@ module _ (w : List ℕ) (R : RowsAt) (S : SearchAt) (source at left : ℕ) (T : 
               ∙ search_others i h;
           held = taken_holds w' w'' at j xs inside sinks_held (rw sinks_long O);
           small = without_below R.zones j xs inside T.small;
-          over = (rw is (T.small j inside), without_long j xs inside);
+          over = (rw is (T.small j inside), length-remove xs j inside);
           found = λ es A.
               rw is
               (pick_some (reaches (network_of R.zones es) source) j xs inside

@@ -28,14 +28,6 @@ module _ {v w : List ℕ} {R : RowsAt} {S : SearchAt} {from x top head tail : �
       Visitable w R S x (R.rows + get_or w (R.starts + z) 0) (R.rows + get_or w (R.starts + z + 1) 0) tail
   ready z is = head_visitable G more is refl refl
 
-pub overflow_add-tail : goal.overflow_add-tail
-overflow_add-tail c =
-    let G = c.requires.course in
-    omega (arith, tail_few G (omega arith), G.able.able.laid.small)
-
-pub loop-head-init : goal.loop-head-init
-loop-head-init c = (omega arith, (refl, λ v from G. G))
-
 pub overflow_add-at : goal.overflow_add-at
 overflow_add-at c =
     let U = c.requires in
@@ -50,19 +42,6 @@ pub bounds-work-at : goal.bounds-work-at
 bounds-work-at c =
     let U = c.requires in
     spot (c.loop-head.invariant.1.1 U.began U.from U.course) c.loop-head-test.true
-
-pub visit-tail-requires : goal.visit-tail-requires
-visit-tail-requires c =
-    let U = c.requires in
-    let G = c.loop-head.invariant.1.1 U.began U.from U.course in
-    let more = c.loop-head-test.true in
-    record { in_rows = inside G more _ c.from-z.ensures; visitable = ready G more _ c.from-z.ensures }
-
-pub overflow_add-head : goal.overflow_add-head
-overflow_add-head c =
-    let U = c.requires in
-    let G = c.loop-head.invariant.1.1 U.began U.from U.course in
-    omega (arith, tail_few G c.loop-head-test.true, G.able.able.laid.small)
 
 pub loop-head-smaller : goal.loop-head-smaller
 loop-head-smaller c =
@@ -82,9 +61,6 @@ loop-head-preserved c =
       ),
     )
 
-pub shape_of-work : goal.shape_of-work
-shape_of-work c = c.loop-head.invariant.1.0
-
 pub returns : goal.returns
 returns c =
     let l = c.loop-head in
@@ -92,3 +68,10 @@ returns c =
     let G = l.invariant.1.1 U.began U.from U.course in
     let e : l.head ≡ l.tail = omega (arith, c.loop-head-test.false, G.high) in
     record { grown = l.invariant.0; goes_on = rw e at l.invariant.1.1 }
+
+pub visit-tail-requires : goal.visit-tail-requires
+visit-tail-requires c =
+    let U = c.requires in
+    let G = c.loop-head.invariant.1.1 U.began U.from U.course in
+    let more = c.loop-head-test.true in
+    record { in_rows = inside G more _ c.from-z.ensures; visitable = ready G more _ c.from-z.ensures }

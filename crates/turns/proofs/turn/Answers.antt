@@ -1,7 +1,6 @@
 -- `turn` meets its contract: the marks are cleared, the search sets them, and the first marked sink is taken
 -- out. The marks are those of a search from cleared marks, so that the look along the sinks stays within the memory.
 -- Assumes nothing.
-use native.Mathlib.Omega.{arith}
 use Rattle.turns.proofs.TurnLaws.{searchable, lookable, turned_nothing, turned_found}
 use Rattle.turns.proofs.turn.Goals as goal
 
@@ -11,12 +10,11 @@ search-requires c =
     rw c.fill.ensures
     (searchable a.work.now a.rows a.at a.source a.sinks a.left c.requires)
 
-pub first_marked-requires : goal.first_marked-requires
-first_marked-requires c =
+pub first_marked-requires-clause-marks_in_bounds : goal.first_marked-requires-clause-marks_in_bounds
+first_marked-requires-clause-marks_in_bounds c =
     let a = c.args in
     let done = rw c.fill.ensures at c.search.ensures in
-    let look = lookable a.work.now a.rows a.at a.source a.sinks a.left c.requires c.search.new.work done in
-    record { count_in_bounds = look.0; marks_in_bounds = look.1 }
+    lookable a.work.now a.rows a.at a.source a.sinks a.left c.requires c.search.new.work done
 
 pub returns-in_err-j : goal.returns-in_err-j
 returns-in_err-j c =
@@ -25,34 +23,6 @@ returns-in_err-j c =
     rw c.from_residual.ensures
     (turned_nothing a.work.now a.rows a.at a.source a.sinks a.left c.requires c.search.new.work done
     c.in_err-j.ensures)
-
-pub overflow_add-sinks : goal.overflow_add-sinks
-overflow_add-sinks c =
-    let a = c.args in
-    let done = rw c.fill.ensures at c.search.ensures in
-    let look = lookable a.work.now a.rows a.at a.source a.sinks a.left c.requires c.search.new.work done in
-    omega (arith, look.0, c.in_ok-j.ensures)
-
-pub offset_bounds-work-sinks : goal.offset_bounds-work-sinks
-offset_bounds-work-sinks c =
-    let a = c.args in
-    let done = rw c.fill.ensures at c.search.ensures in
-    let look = lookable a.work.now a.rows a.at a.source a.sinks a.left c.requires c.search.new.work done in
-    omega (arith, look.0, c.in_ok-j.ensures)
-
-pub bounds-work-sinks : goal.bounds-work-sinks
-bounds-work-sinks c =
-    let a = c.args in
-    let done = rw c.fill.ensures at c.search.ensures in
-    let look = lookable a.work.now a.rows a.at a.source a.sinks a.left c.requires c.search.new.work done in
-    omega (arith, look.0, c.in_ok-j.ensures)
-
-pub take_out-requires : goal.take_out-requires
-take_out-requires c =
-    let a = c.args in
-    let done = rw c.fill.ensures at c.search.ensures in
-    let look = lookable a.work.now a.rows a.at a.source a.sinks a.left c.requires c.search.new.work done in
-    (omega (arith, c.in_ok-j.ensures), look.0)
 
 pub returns : goal.returns
 returns c =
