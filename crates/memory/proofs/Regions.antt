@@ -7,7 +7,7 @@
 --   holds_append             two lists, one behind the other
 --   at_below, at_kept        the same up to a place, or from a place on: each element there is the same
 --   part_store, part_below, part_kept   what changes elsewhere leaves a part as it is
---   holds_store, holds_kept, holds_apart   ... and a list where it is
+--   holds_store, holds_apart   ... and a list where it is
 -- The idea: each law is one of `take`, `drop` and `set`. Assumes nothing.
 use mathlib.Core.Path.{◌≡◌, refl, sym, ap, ◌∙◌}
 use mathlib.Core.Logic.{◌⊎◌, ⊎_elim}
@@ -150,8 +150,3 @@ pub holds_apart : (w w' : List ℕ) (at : ℕ) (xs : List ℕ) → length w' ≡
 holds_apart w w' at xs long same h =
     holds_of w' at xs (omega (arith, holds_fits w at xs h))
     (λ i low. same (at + i) (omega arith) (omega arith) ∙ holds_at w at xs h i low)
-
--- a memory that is the same from the place n on holds each list that starts there or behind
-pub holds_kept : (w w' : List ℕ) (n at : ℕ) (xs : List ℕ) → n ≤ at → drop n w' ≡ drop n w → Holds w at xs →
-    Holds w' at xs
-holds_kept w w' n at xs low same h = part_kept w w' n at (length xs) low same ∙ h

@@ -1,5 +1,4 @@
 -- What a run of stores, `sets w at vs`, leaves: vs from `at` on, and everything else as it was.
---   sets_set       a store below the run may come before it or after it
 --   take_sets, drop_sets, getD_sets_low, getD_sets_high   what lies before and behind the run is kept
 --   drop_sets_at, getD_sets_at            what stands where the run stored
 --   sets_holds                            the memory holds what was stored
@@ -11,7 +10,7 @@ use mathlib.Core.List.{List, [], ◌∷◌, ◌++◌, append_assoc}
 use Prim.Native.Nat.{ℕ, suc, ◌+◌, ◌≤◌, ◌<◌}
 use native.Mathlib.Omega.{arith}
 use lib.ListN.{length, get_or, take, drop, set, get_or-append}
-use lib.Seq.{sets, sets-eq, set_comm, take-set-le, drop-set-lt, get_or-set_other, length-take-le, drop_at, get_or-drop}
+use lib.Seq.{sets, sets-eq, take-set-le, drop-set-lt, get_or-set_other, length-take-le, drop_at, get_or-drop}
 use lib.Seq.{take-append_seam}
 use Rattle.theory.proofs.Ground.Storing.{sets_append}
 use Rattle.memory.specs.Regions.{part, Holds}
@@ -21,14 +20,6 @@ use Rattle.memory.proofs.Regions.{part_below, part_kept, holds_append}
 pub sets_more : (w : List ℕ) (at : ℕ) (vs : List ℕ) (x n : ℕ) → n ≡ at + length vs
     → set (sets w at vs) n x ≡ sets w at (vs ++ (x ∷ []))
 sets_more w at vs x n e = rw e (sym (sets_append w at vs (x ∷ [])))
-
--- a store below the run may come before it or after it
-pub sets_set : (w : List ℕ) (at : ℕ) (vs : List ℕ) (i x : ℕ) → i < at → set (sets w at vs) i x ≡ sets (set w i x) at vs
-sets_set w at [] i x h = refl
-sets_set w at (v ∷ vs) i x h =
-    let apart : at ≢ i = λ e. omega arith in
-    sets_set (set w at v) (suc at) vs i x (omega arith)
-    ∙ ap (λ (u : List ℕ). sets u (suc at) vs) (set_comm w at i v x apart)
 
 -- what lies before the run is kept
 pub take_sets : (w : List ℕ) (at : ℕ) (vs : List ℕ) (n : ℕ) → n ≤ at → take n (sets w at vs) ≡ take n w

@@ -1,5 +1,4 @@
-// Lent work memory: an element as an index, and stretches that are cleared, filled, and copied to lower places or out
-// to a lent list.
+// Lent work memory: stretches that are cleared, filled, and copied to lower places or out to a lent list.
 #![tactic(auto)]
 
 ghost use Rattle.std.specs.Prelude.{◌≡◌, ◌+◌, ◌≤◌, length, replicate};
@@ -7,13 +6,6 @@ ghost use Rattle.std.proofs.lemmas.List.Edits.{sets};
 ghost use Rattle.rules.specs.Lists.{over, cleared};
 ghost use Rattle.memory.specs.Regions.{part};
 ghost use Rattle.memory.specs.Storing.{Copyable, Copied};
-
-// An element as an index.
-pub fn wide(x: u16) -> usize
-    ensures { result ≡ x }
-{
-    usize::from(x)
-}
 
 // Stores a number n times, from the place `at` on.
 pub fn fill(work: &mut [u16], at: usize, n: usize, x: u16)
