@@ -10,7 +10,7 @@
 use Prim.Native.Nat.{ℕ, ◌≤◌, ◌<◌}
 use native.Mathlib.Omega.{arith}
 use mathlib.Core.Path.{◌≡◌, sym, ap, ◌∙◌}
-use mathlib.Core.List.{List, [], ◌∷◌, ◌++◌, append_assoc, Memᴰ as In}
+use mathlib.Core.List.{List, [], ◌∷◌, append_assoc, Memᴰ as In}
 use mathlib.Core.Option.{none}
 use mathlib.Core.Bool.{Bool, not}
 use lib.Dec.{eqb, ltb}
