@@ -37,12 +37,6 @@ module _ {m : Map} {ts hs w w₁ w₂ : List ℕ} (P : Readyable m ts hs w) (C :
       let q = searches_placed P.map in
       fresh_zero fresh_here _ (omega arith)
 
-pub clear-requires : goal.clear-requires
-clear-requires c =
-    let p = placed c.requires.ready.map in
-    let q = searches_placed c.requires.ready.map in
-    omega (arith, c.requires.ready.room)
-
 pub arrange-requires : goal.arrange-requires
 arrange-requires c =
     let a = c.args in
@@ -60,33 +54,6 @@ search-requires c =
     rows_searchable a.m a.tails.now a.heads.now a.work.now P
     c.arrange.new.work (fresh_here P C T).long a.m.search (omega arith) (omega arith) a.from
     c.requires.from_zone (clear_here P C T) T.at
-
-pub overflow_add-mark : goal.overflow_add-mark
-overflow_add-mark c =
-    let q = searches_placed c.requires.ready.map in
-    omega (arith, c.requires.ready.fine.accepted.zones_most, c.requires.to_zone)
-
-pub offset_bounds-work-at : goal.offset_bounds-work-at
-offset_bounds-work-at c =
-    let q = searches_placed c.requires.ready.map in
-    let small = c.requires.ready.fine.accepted.zones_most in
-    let inside = c.requires.to_zone in
-    search rules
-
-pub bounds-work-at : goal.bounds-work-at
-bounds-work-at c =
-    let P = c.requires.ready in
-    let p = placed P.map in
-    let q = searches_placed P.map in
-    let F = fresh_here P c.clear.ensures c.arrange.ensures in
-    omega (arith, P.room, c.requires.to_zone, c.search.ensures.kept.long, F.long)
-
-pub clear-requires-2 : goal.clear-requires-2
-clear-requires-2 c =
-    let P = c.requires.ready in
-    let p = placed P.map in
-    let F = fresh_here P c.clear.ensures c.arrange.ensures in
-    omega (arith, P.room, c.search.ensures.kept.long, F.long)
 
 pub returns : goal.returns
 returns c =

@@ -1,7 +1,6 @@
 -- `joined` meets its contract. The lowest zone that is not withdrawn is one that remains. The first sweep leaves the
 -- rows, the turned rows and the second marks as they were, so the second can go, and clearing leaves what came behind.
 -- Assumes nothing.
-use borrow.Author.Rules.{rules}
 use native.Mathlib.Omega.{arith}
 use Prim.Native.Nat.{ℕ, ◌+◌, ◌<◌}
 use mathlib.Core.Path.{◌≡◌, ◌∙◌}
@@ -16,7 +15,7 @@ use Rattle.workmap.specs.declared.Map.{Map}
 use Rattle.workmap.proofs.Places.{placed, searches_placed}
 use Rattle.memory.proofs.Cleared.{cleared_back}
 use Rattle.arranged.specs.Ready.{Standing, Stood}
-use Rattle.arranged.proofs.ReadyLaws.{ready_long, stood_standing, stood_zero}
+use Rattle.arranged.proofs.ReadyLaws.{stood_standing, stood_zero}
 use Rattle.search.specs.Marking.{Clear}
 use Rattle.search.proofs.Keeping.{kept_at}
 use Rattle.withdrawn.specs.Withdrawn.{ReadyWith, Lowest}
@@ -90,18 +89,6 @@ module _ {m : Map} {ts hs gone w : List ℕ} (P : ReadyWith m ts hs gone w) wher
             work = e ∙ cleared_back m.asked w w₄ after.beyond;
           }
 
-pub lowest-from-requires : goal.lowest-from-requires
-lowest-from-requires c = c.requires.fine.ascending
-
-pub clear-requires : goal.clear-requires
-clear-requires c =
-    let p = placed c.requires.ready.map in
-    let q = searches_placed c.requires.ready.map in
-    omega (arith, c.requires.ready.room)
-
-pub both_ways-requires : goal.both_ways-requires
-both_ways-requires c = ready_long c.requires.ready (search rules)
-
 pub sweep-there-requires : goal.sweep-there-requires
 sweep-there-requires c =
     let a = c.args in
@@ -140,13 +127,6 @@ sweep-back-requires c =
       clear = clear;
       zones = λ z i. rw p.turned_zones (P.fine.below z i);
     }
-
-pub clear-requires-2 : goal.clear-requires-2
-clear-requires-2 c =
-    let P = c.requires in
-    let p = placed P.ready.map in
-    let S = standing_here P c.clear.ensures c.both_ways.ensures c.sweep-there.ensures in
-    omega (arith, P.ready.room, c.sweep-back.ensures.kept.long, S.long)
 
 pub returns-then-there : goal.returns-then-there
 returns-then-there c =

@@ -8,14 +8,6 @@ use lib.ListN.{length}
 use Rattle.strength.proofs.Truth.{says_all, swept}
 use Rattle.strength.proofs.sweep.Goals as goal
 
-pub search-requires : goal.search-requires
-search-requires c = c.requires.able
-
-pub stamp-requires : goal.stamp-requires
-stamp-requires c =
-    let laid = c.requires.able.laid in
-    record { within = omega (arith, laid, c.search.ensures.kept.long); gone_below = c.requires.zones }
-
 pub returns : goal.returns
 returns c =
     let a = c.args in
