@@ -6,25 +6,22 @@ ghost use Rattle.std.specs.Prelude.{◌≤◌, length};
 ghost use Rattle.rules.specs.File.{body_at};
 ghost use Rattle.filebody.specs.Answered.{ReadingAnswered};
 
-use filenumbers::Cursor;
-use filepasses::{scan, store};
+use filepasses::FileArcs;
 use rules::{FileCounts, Trouble, TroubleKind};
 
 // The arcs of a file, and nothing after them: tested to the end, and only then stored.
 pub fn body(
     file: &[u8],
-    from: Cursor,
-    zones: usize,
-    arcs: usize,
+    due: FileArcs,
     tails: &mut [u16],
     heads: &mut [u16],
 ) -> Result<FileCounts, Trouble>
-    requires zones_bound { zones ≤ 1024 }
-    requires arcs_in_bounds { (arcs ≤ length tails.old) × (arcs ≤ length heads.old) }
-    ensures { ReadingAnswered (body_at file.now zones arcs from.at)
+    requires { (due.arcs ≤ length tails.old) × (due.arcs ≤ length heads.old) }
+    ensures { ReadingAnswered (body_at file.now due.zones due.arcs due.from.at)
         tails.old heads.old result tails.new heads.new }
 {
-    let end = scan(file, from, zones, arcs)?;
+    let FileArcs { zones, arcs, .. } = due;
+    let end = due.scan(file)?;
     let size = file.len();
     if end.at < size {
         return Err(Trouble {
@@ -32,6 +29,6 @@ pub fn body(
             place: end.at,
         });
     }
-    store(file, from, zones, arcs, tails, heads);
+    due.store(file, tails, heads);
     Ok(FileCounts { zones, arcs })
 }

@@ -12,6 +12,7 @@ ghost use Rattle.filenumbers.specs.Readings.{number_reading};
 use rules::{Trouble, TroubleKind};
 
 // The reading place. It moves forward by one number at a time.
+// Kept (5): document 01 names this form, a place by value whose method takes the bytes; so they are no field of it.
 #[derive(Clone, Copy)]
 pub struct Cursor {
     pub at: usize,

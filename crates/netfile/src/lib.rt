@@ -11,6 +11,7 @@ use filebody::body;
 use filebytes::{arcs_length, write_file};
 use filecounts::{arc_count, zone_count};
 use filegroups::number_length;
+use filepasses::FileArcs;
 use intake::network;
 use probes::room;
 use rules::{FileCounts, NetworkLists, Trouble};
@@ -22,7 +23,7 @@ pub fn read(file: &[u8], tails: &mut [u16], heads: &mut [u16]) -> Result<FileCou
 {
     let (zones, next) = zone_count(file)?;
     let (arcs, from) = arc_count(file, next, tails.len(), heads.len())?;
-    body(file, from, zones, arcs, tails, heads)
+    body(file, FileArcs { from, zones, arcs }, tails, heads)
 }
 
 // Writing a network into a lent list of bytes: the file's length, or the first trouble. Nothing is put in before the

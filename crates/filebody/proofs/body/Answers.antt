@@ -12,12 +12,12 @@ pub returns-in_err-end : goal.returns-in_err-end
 returns-in_err-end c =
     let a = c.args in
     let e : c.from_residual.result ≡ Err c.in_err-end.field-0.0 = grind (arith, common_steps) in
-    rw e (answered_bad (body_refused a.file.now a.zones a.arcs a.from.at c.in_err-end.ensures))
+    rw e (answered_bad (body_refused a.file.now a.due.zones a.due.arcs a.due.from.at c.in_err-end.ensures))
 
 pub returns-then-end-size : goal.returns-then-end-size
 returns-then-end-size c =
     let a = c.args in
-    answered_bad (body_extra a.file.now a.zones a.arcs a.from.at c.in_ok-end.ensures.1 (omega arith))
+    answered_bad (body_extra a.file.now a.due.zones a.due.arcs a.due.from.at c.in_ok-end.ensures.1 (omega arith))
 
 pub returns : goal.returns
 returns c =
@@ -25,7 +25,7 @@ returns c =
     let e = c.in_ok-end.ensures in
     let t = c.store.ensures in
     answered_got
-    (body_ends a.file.now a.zones a.arcs a.from.at e.1 (omega arith))
-    (arcs_count a.file.now a.zones a.arcs a.from.at e.1)
+    (body_ends a.file.now a.due.zones a.due.arcs a.due.from.at e.1 (omega arith))
+    (arcs_count a.file.now a.due.zones a.due.arcs a.due.from.at e.1)
     (t.tails e.0 _ e.1)
     (t.heads e.0 _ e.1)

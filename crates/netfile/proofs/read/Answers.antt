@@ -29,11 +29,11 @@ returns-in_err-arcs c =
     let e : c.from_residual-in_err-arcs.result ≡ Err c.in_err-arcs.field-0.0 = grind (arith, common_steps) in
     rw e (read_kept (answered_bad (file_goes_on s tails heads z ∙ counted_refused s tails heads _ _ m)))
 
-pub body-requires-clause-zones_bound : goal.body-requires-clause-zones_bound
-body-requires-clause-zones_bound c = zones_few c.args.file.now (sym c.in_ok-zones.ensures)
+pub invariant_of-body : goal.invariant_of-body
+invariant_of-body c = record { zones_bound = zones_few c.args.file.now (sym c.in_ok-zones.ensures) }
 
-pub body-requires-clause-arcs_in_bounds : goal.body-requires-clause-arcs_in_bounds
-body-requires-clause-arcs_in_bounds c =
+pub body-requires : goal.body-requires
+body-requires c =
     let a = c.args in
     count_fits a.file.now (length a.tails.now) (length a.heads.now) _ (sym c.in_ok-arcs.ensures)
 

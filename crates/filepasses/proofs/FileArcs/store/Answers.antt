@@ -1,19 +1,19 @@
 use native.Mathlib.Omega.{arith}
 use Rattle.filepasses.proofs.ArcsDue.{due_tail, due_head, due_arc}
 use Rattle.filepasses.proofs.Partway.{partway_turn, partway_due, partway_end}
-use Rattle.filepasses.proofs.store.Goals as goal
+use Rattle.filepasses.proofs.FileArcs.store.Goals as goal
 
 -- an arc is due in each turn, and it begins with its tail
 pub known-tail-requires : goal.known-tail-requires
 known-tail-requires c =
     let due = partway_due c.loop-k.invariant (omega arith) c.requires.accepted in
-    due_tail due c.requires.zones_bound
+    due_tail due (omega arith)
 
 -- and goes on with its head
 pub known-head-requires : goal.known-head-requires
 known-head-requires c =
     let due = partway_due c.loop-k.invariant (omega arith) c.requires.accepted in
-    due_head due c.known-tail.ensures c.requires.zones_bound
+    due_head due c.known-tail.ensures (omega arith)
 
 -- the tail and the head that were read are those of the arc, and zones
 pub overflow_cast-tails : goal.overflow_cast-tails

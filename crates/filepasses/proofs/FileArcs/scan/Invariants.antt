@@ -6,7 +6,7 @@ use mathlib.Core.Path.{◌≡◌}
 use Rattle.filepasses.proofs.ArcTurns.{ahead}
 use Rattle.rules.specs.File.{arcs_at}
 use Rattle.rules.specs.Network.{Arc}
-use Rattle.filepasses.proofs.scan.Given as goal
+use Rattle.filepasses.proofs.FileArcs.scan.Given as goal
 
 abbrev pub invariant-loop : goal.invariant-loop
 invariant-loop l =

@@ -1,7 +1,7 @@
 -- `store` meets its contract. The loop's invariant: `k` arcs are in the lists, and the rest is ahead at `at`.
 -- Assumes nothing.
 use Rattle.filepasses.proofs.Partway.{Partway}
-use Rattle.filepasses.proofs.store.Given as goal
+use Rattle.filepasses.proofs.FileArcs.store.Given as goal
 
 abbrev pub invariant-loop-k : goal.invariant-loop-k
 invariant-loop-k l =
