@@ -1,4 +1,5 @@
 -- What searches from a zone that remains tell of the network.
+--   SaysAll           an answer that says whether each zone has a mark
 --   says_all          whether a zero stands among the marks says whether each zone has one
 --   swept             a search from a zone, and stamps, by which every zone is marked: it comes to all that remain
 --   joined_truth      a zone comes to all that remain along the rows and along the turned rows: the network is strong
@@ -36,8 +37,17 @@ use Rattle.search.proofs.Closed.{searched_clear}
 use Rattle.search.proofs.Keeping.{kept_then}
 use Rattle.withdrawn.specs.Withdrawn.{stamped, Stamped}
 use Rattle.reaching.proofs.Truth.{run_reaches, reaches_run}
-use Rattle.strength.specs.Marks.{SaysAll, Everywhere, Swept}
+use Rattle.strength.specs.Marks.{Everywhere, Swept}
 use Rattle.strength.proofs.Memory.{stamped_kept}
+
+-- each of the n zones has a mark
+abbrev pub AllMarked : List ℕ → ℕ → ℕ → Type 0
+AllMarked w marks n = (v : ℕ) → v < n → Marked w marks v
+
+-- the answer b says whether each of the n zones has a mark
+pub record SaysAll (w : List ℕ) (marks n : ℕ) (b : Bool) : Type 0 where
+  pub yes : b ≡ true → AllMarked w marks n
+  pub no : AllMarked w marks n → b ≡ true
 
 -- whether a zero stands among the marks says whether each zone has a mark
 pub says_all : (w : List ℕ) (marks n : ℕ) (r : Bool) → marks + n ≤ length w →

@@ -1,6 +1,4 @@
 -- What is read off the marks of a search.
---   AllMarked w marks n    each of the n zones has a mark
---   SaysAll w marks n b    b is yes exactly where that is so
 --   Everywhere w R from gone   `from` comes to every zone that is not withdrawn, along the rows R
 --   Sweepable               what such a search asks: clear marks, and withdrawn numbers that are zones
 --   Swept                   a search that says whether it came to every such zone
@@ -10,17 +8,7 @@ use Rattle.rules.specs.Lists.{listed}
 use Rattle.workmap.specs.declared.RowsAt.{RowsAt}
 use Rattle.workmap.specs.declared.SearchAt.{SearchAt}
 use Rattle.arranged.specs.Rows.{Entry, Run, rows_of}
-use Rattle.arranged.specs.Marks.{Marked}
 use Rattle.search.specs.Marking.{Kept, Clear, Searchable}
-
--- each of the n zones has a mark
-abbrev pub AllMarked : List ℕ → ℕ → ℕ → Type 0
-AllMarked w marks n = (v : ℕ) → v < n → Marked w marks v
-
--- the answer b says whether each of the n zones has a mark
-pub record SaysAll (w : List ℕ) (marks n : ℕ) (b : Bool) : Type 0 where
-  pub yes : b ≡ true → AllMarked w marks n
-  pub no : AllMarked w marks n → b ≡ true
 
 -- `from` comes to every zone that is not withdrawn, along the rows in w
 abbrev pub Everywhere : List ℕ → RowsAt → ℕ → List ℕ → Type 0
