@@ -2,8 +2,7 @@
 --   network_told     the tests of a network are those before the arcs, and then the arcs'
 --   network_counts   where they find nothing, the counts are within their bounds
 --   none_told        NONE, after LIST: the list of withdrawn numbers is as long as the zone count
---   first_paired     where the tests before the arcs find nothing, tails and heads pair up
---   first_below      and each withdrawn number is below 1,024
+--   first_below      where the tests before the arcs find nothing, each withdrawn number is below 1,024
 --   arcs_told        the arcs' tests with a set of the withdrawn numbers are those with their list
 -- A list that passed LIST withdraws all numbers exactly where it is as long as the zone count. A network that passes
 -- its tests is one that calls accept, which `theory` shows. Assumes nothing.
@@ -15,7 +14,7 @@ use mathlib.Core.Option.{none}
 use mathlib.Core.Bool.{Bool, not}
 use lib.Dec.{eqb, ltb}
 use lib.ListN.{length}
-use borrow.Author.Tests.{eqb-true, not-false, ltb-false}
+use borrow.Author.Tests.{ltb-false}
 use Rattle.rules.specs.declared.TroubleKind.TheVariants.{Pair, Zones, Arcs, None}
 use Rattle.rules.specs.Lists.{listed}
 use Rattle.rules.specs.Network.{Arc}
@@ -62,21 +61,16 @@ module _ (n : ℕ) (ts hs gone : List ℕ) where
   pub network_counts : first_trouble (network_tests n ts hs gone) ≡ none → (n ≤ 1024) × (length ts ≤ 4096)
   network_counts e = let g = (fine_with n ts hs gone e).fine in (g.accepted.zones_most, fine_few g)
 
-  module _ (e : none ≡ first_trouble (first_tests n ts hs gone)) where
-    -- Where the tests before the arcs find nothing, tails and heads pair up.
-    pub first_paired : length ts ≡ length hs
-    first_paired = eqb-true _ _ (not-false _ (passes (not (eqb (length ts) (length hs))) _ _ (sym e)).0)
-
-    -- And each withdrawn number is below 1,024.
-    pub first_below : (z : ℕ) → In z gone → z < 1024
-    first_below z m =
-        let p = passes (not (eqb (length ts) (length hs))) _ _ (sym e) in
-        let q = passes (zones_bad n) _ _ p.1 in
-        let r = passes (arcs_bad (length ts)) _ _ q.1 in
-        let l = both_pass (list_tests n 0 0 gone) (none_test n gone ∷ []) r.1 in
-        let most = ltb-false 1024 n (or_false (eqb n 0) (ltb 1024 n) q.0).1 in
-        let below = rising_below n 0 gone (list_rises n 0 0 gone l.0) m in
-        omega arith
+  -- Where the tests before the arcs find nothing, each withdrawn number is below 1,024.
+  pub first_below : none ≡ first_trouble (first_tests n ts hs gone) → (z : ℕ) → In z gone → z < 1024
+  first_below e z m =
+      let p = passes (not (eqb (length ts) (length hs))) _ _ (sym e) in
+      let q = passes (zones_bad n) _ _ p.1 in
+      let r = passes (arcs_bad (length ts)) _ _ q.1 in
+      let l = both_pass (list_tests n 0 0 gone) (none_test n gone ∷ []) r.1 in
+      let most = ltb-false 1024 n (or_false (eqb n 0) (ltb 1024 n) q.0).1 in
+      let below = rising_below n 0 gone (list_rises n 0 0 gone l.0) m in
+      omega arith
 
 -- The arcs' tests with a set of the withdrawn numbers are those with their list.
 pub arcs_told : (n : ℕ) (es : List Arc) (s : ZoneSet) (gone : List ℕ) → ((z : ℕ) → held s z ≡ listed gone z)

@@ -3,7 +3,7 @@
 use native.Mathlib.Omega.{arith}
 use Rattle.std.proofs.lemmas.Grind.{common_steps}
 use Rattle.rules.specs.Calls.{arcs_of}
-use Rattle.intake.proofs.Leading.{network_told, network_counts, first_paired, first_below, arcs_told}
+use Rattle.intake.proofs.Leading.{network_told, network_counts, first_below, arcs_told}
 use Rattle.intake.proofs.network.Goals as goal
 
 pub returns-in_err-first_tests : goal.returns-in_err-first_tests
@@ -16,11 +16,6 @@ pub of-gone-requires : goal.of-gone-requires
 of-gone-requires c =
     let n = c.args.net in
     first_below n.zones n.tails.now n.heads.now n.gone.now c.in_ok-first_tests.ensures.first
-
-pub arcs-requires : goal.arcs-requires
-arcs-requires c =
-    let n = c.args.net in
-    first_paired n.zones n.tails.now n.heads.now n.gone.now c.in_ok-first_tests.ensures.first
 
 pub returns-in_err-arcs : goal.returns-in_err-arcs
 returns-in_err-arcs c =
