@@ -1,11 +1,12 @@
 -- The bytes of a network, and lists of bytes with others put into them.
 --   rest_bytes i ts hs    the bytes of the arcs from index i on, with rest_cons, rest_length, rest_turn and rest_none
 -- Assumes nothing.
-use Prim.Native.Nat.{ℕ, suc, ◌+◌, ◌≤◌, ◌<◌}
+use Prim.Native.Nat.{ℕ, suc, ◌+◌, ◌<◌, min}
 use native.Mathlib.Numerals.{add-one}
 use native.Mathlib.Omega.{arith}
-use mathlib.Core.Path.{◌≡◌}
-use mathlib.Core.List.{List, [], ◌++◌, append_assoc, zip_with}
+use native.Mathlib.Decide.{dec_lt}
+use mathlib.Core.Path.{◌≡◌, refl}
+use mathlib.Core.List.{List, [], ◌∷◌, ◌++◌, append_assoc, zip_with}
 use lib.ListN.{length, get_or, drop, length-append, drop_of_length-le}
 use lib.Seq.{drop-cons, sets}
 use Rattle.rules.specs.Number.{number_bytes}
@@ -41,7 +42,21 @@ pub rest_turn : (file : List ℕ) (i at : ℕ) (ts hs : List ℕ) {mid next : �
 rest_turn file i at ts hs p q m e n e' =
     rw (rest_cons i ts hs p q, sets_append, sets_append, e', n, e, m)
 
--- Past the last arc there are none.
-pub rest_none : (i : ℕ) (ts hs : List ℕ) → length ts ≤ i → rest_bytes i ts hs ≡ []
+-- Tails with no heads are no arcs.
+tails_alone : (ts : List ℕ) → arcs_bytes (arcs_of ts []) ≡ []
 unfolding arcs_of zip_with arcs_bytes
-rest_none i ts hs h = rw (drop_of_length-le ts h)
+tails_alone [] = refl
+tails_alone (t ∷ ts) = refl
+
+-- Past the last arc there are none.
+pub rest_none : (i : ℕ) (ts hs : List ℕ) → i ≡ min (length ts) (length hs) → rest_bytes i ts hs ≡ []
+unfolding arcs_of zip_with arcs_bytes
+rest_none i ts hs e =
+    elim (dec_lt i (length ts)) [
+      | yes h ↦
+          let f : drop i hs ≡ [] = drop_of_length-le hs (omega arith) in
+          rw f (tails_alone (drop i ts))
+      | no h ↦
+          let f : drop i ts ≡ [] = drop_of_length-le ts (omega arith) in
+          rw f
+    ]

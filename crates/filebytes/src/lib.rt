@@ -13,7 +13,7 @@ use filegroups::{number_length, write_number};
 
 // How many bytes the arcs are written as.
 pub fn arcs_length(tails: &[u16], heads: &[u16]) -> usize
-    requires { (length tails.now ≡ length heads.now) × (length tails.now ≤ 4096) }
+    requires { length tails.now ≤ 4096 }
     ensures { result ≡ length (arcs_bytes (arcs_of tails.now heads.now)) }
 {
     let mut total = 0;
@@ -27,8 +27,7 @@ pub fn arcs_length(tails: &[u16], heads: &[u16]) -> usize
 
 // Puts the arcs in, one after the other, from a place on.
 fn write_arcs(file: &mut [u8], from: usize, tails: &[u16], heads: &[u16])
-    requires same_length { length tails.now ≡ length heads.now }
-    requires has_room { from + length (arcs_bytes (arcs_of tails.now heads.now)) ≤ length file.old }
+    requires { from + length (arcs_bytes (arcs_of tails.now heads.now)) ≤ length file.old }
     ensures { file.new
         ≡ sets file.old from (arcs_bytes (arcs_of tails.now heads.now)) }
 {

@@ -1,4 +1,4 @@
-use Prim.Native.Nat.{◌<◌, min}
+use Prim.Native.Nat.{◌<◌}
 use native.Mathlib.Omega.{arith}
 use mathlib.Core.Path.{◌≡◌, ap}
 use lib.ListN.{length, get_or, length-append}
@@ -42,8 +42,7 @@ pub returns : goal.returns
 returns c =
     let a = c.args in
     let l = c.loop-tail in
-    let n : length l.yielded ≡ min (length a.tails.now) (length a.heads.now) =
-    zip_end a.tails.now a.heads.now l.yielded
+    let n = zip_end a.tails.now a.heads.now l.yielded
     _ _ c.next.new.self _ (cc) (cc) l.yielded_by c.in-None.is c.next.ensures.steps in
-    let e = ap length (rest_none (length l.yielded) a.tails.now a.heads.now (omega arith)) in
+    let e = ap length (rest_none _ a.tails.now a.heads.now n) in
     omega (arith, l.invariant.1)

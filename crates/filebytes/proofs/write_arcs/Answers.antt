@@ -1,4 +1,4 @@
-use Prim.Native.Nat.{◌<◌, min}
+use Prim.Native.Nat.{◌<◌}
 use native.Mathlib.Omega.{arith}
 use mathlib.Core.Path.{◌≡◌, sym, ap, ◌∙◌}
 use lib.Seq.{length-sets}
@@ -64,8 +64,6 @@ pub returns : goal.returns
 returns c =
     let a = c.args in
     let l = c.loop-tail in
-    let n : length l.yielded ≡ min (length a.tails.now) (length a.heads.now) =
-    zip_end a.tails.now a.heads.now l.yielded
+    let n = zip_end a.tails.now a.heads.now l.yielded
     _ _ c.next.new.self _ (cc) (cc) l.yielded_by c.in-None.is c.next.ensures.steps in
-    let e = rest_none (length l.yielded) a.tails.now a.heads.now (omega arith) in
-    sym (l.invariant.1 ∙ rw e)
+    sym (l.invariant.1 ∙ rw (rest_none _ a.tails.now a.heads.now n))

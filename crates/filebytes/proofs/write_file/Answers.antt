@@ -25,10 +25,8 @@ write_arcs-requires c =
     let f = c.write_number-at in
     let long : length f.new.file ≡ length a.file.now = ap length f.ensures.1 ∙ simp length-sets in
     let g = c.write_number-from in
-    let long' : length g.new.file ≡ length a.file.now = ap length g.ensures.1 ∙ simp length-sets long in record {
-      same_length = c.requires.counts_bound.1.0;
-      has_room = omega (arith, long', written_length a.zones a.tails.now a.heads.now c.requires.counts_bound.1.0);
-    }
+    let long' : length g.new.file ≡ length a.file.now = ap length g.ensures.1 ∙ simp length-sets long in
+    omega (arith, long', written_length a.zones a.tails.now a.heads.now c.requires.counts_bound.1.0)
 
 pub returns : goal.returns
 returns c =

@@ -45,11 +45,6 @@ overflow_add-counts c =
     let n = c.args.net in
     omega (arith, length_bounds n.zones, length_bounds (length n.tails.now))
 
-pub arcs_length-requires : goal.arcs_length-requires
-arcs_length-requires c =
-    let f = fine (goal.at.arcs_length-requires c).In_ok-network in
-    (f.paired, fine_few f)
-
 pub overflow_add-length : goal.overflow_add-length
 overflow_add-length c =
     let n = c.args.net in
