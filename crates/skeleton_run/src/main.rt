@@ -4,74 +4,44 @@
 // and their sum.
 #![tactic(auto)]
 
-ghost use Rattle.std.specs.Prelude.{◌<◌, length, IfOk};
-
-use printing::{number, others, put};
-use rules::SkeletonAnswer;
-use runtable::{at, front, part};
+use printing::others;
+use rules::NetworkLists;
+use runtable::{at, front, part, rows};
 use skeleton::skeleton;
-use std::io;
+use std::{array, io};
 
 // What the lent lists hold before: no zone has this number.
 const UNUSED: u16 = 65535;
 
-// What the answer says.
-fn show(rt: &impl Print, answer: SkeletonAnswer) -> io::Result<()> {
-    put(rt, b':')?;
-    match answer {
-        SkeletonAnswer::Done { arcs } => printing::done(rt, arcs),
-        SkeletonAnswer::Refused(t) => printing::refused(rt, t),
-    }
-}
-
-// A sum and one number more, cut to 32 bits before.
-fn more(sum: usize, x: u16) -> usize {
-    sum % 4294967296 + x as usize
-}
-
 // The sum of the elements that were put.
-fn sum(list: &[u16]) -> usize {
-    let mut total = 0;
-    let mut i = 0;
-    while i < list.len() {
-        if list[i] == UNUSED {
-            return total;
-        }
-        total = more(total, list[i]);
-        i += 1;
-    }
-    total
+fn sum(list: &[u16; 4096]) -> u32 {
+    list.iter()
+        .take_while(|x| **x != UNUSED)
+        .map(|x| u32::from(*x))
+        .sum()
 }
 
 // How many elements of a list were put, and their sum.
-fn show_sum(rt: &impl Print, list: &[u16]) -> io::Result<()> {
-    number(rt, others(list, UNUSED))?;
-    number(rt, sum(list))
-}
-
-// One arc.
-fn show_arc(rt: &impl Print, tail: u16, head: usize) -> io::Result<()> {
-    number(rt, tail as usize)?;
-    put(rt, b'-')?;
-    printing::decimal(rt, head)
+fn show_sum(rt: &impl Print, list: &[u16; 4096]) -> io::Result<()> {
+    print!(rt; " {} {}", others(list, UNUSED), sum(list))
 }
 
 // The arcs that were put.
-fn show_arcs(rt: &impl Print, from: &[u16], to: &[u16]) -> io::Result<()> {
-    let mut i = 0;
-    while i < from.len() {
-        if from[i] == UNUSED {
-            return Ok(());
-        }
-        show_arc(rt, from[i], at(to, i))?;
-        i += 1;
-    }
-    Ok(())
+fn show_arcs(rt: &impl Print, from: &[u16; 4096], to: &[u16; 4096]) -> io::Result<()> {
+    from.iter()
+        .zip(to)
+        .take_while(|(tail, _)| **tail != UNUSED)
+        .try_for_each(|(tail, head)| print!(rt; " {tail}-{head}"))
 }
 
-// The arcs that were put, or for long lists their number and their sums.
-fn show_lists(rt: &impl Print, length: usize, from: &[u16], to: &[u16]) -> io::Result<()> {
-    if length <= 16 {
+// The arcs that were put, or where long lists are lent their number and their sums.
+fn show_lists(
+    rt: &impl Print,
+    lent: usize,
+    from: &[u16; 4096],
+    to: &[u16; 4096],
+) -> io::Result<()> {
+    if lent <= 16 {
         show_arcs(rt, from, to)
     } else {
         show_sum(rt, from)?;
@@ -79,96 +49,54 @@ fn show_lists(rt: &impl Print, length: usize, from: &[u16], to: &[u16]) -> io::R
     }
 }
 
-// The arcs that were put, and how many elements of the work memory are not zero.
-fn show_rest(
-    rt: &impl Print,
-    given: &[u16],
-    from: &[u16; 4096],
-    to: &[u16; 4096],
-    work: &[u16; 28672],
-) -> io::Result<()> {
-    put(rt, b';')?;
-    show_lists(rt, at(given, 2), from, to)?;
-    put(rt, b';')?;
-    number(rt, others(part(work, 0, at(given, 4)), 0))?;
-    printing::line_end(rt)
-}
-
-// Asks SKELETON, and prints the line after its label.
+// Asks SKELETON, and prints the line after its label: the answer, the arcs that were put, and how many elements of the
+// work memory are not zero.
 fn ask(rt: &impl Print, given: &[u16], tails: &[u16], heads: &[u16]) -> io::Result<()> {
-    let mut from = [UNUSED; 4096];
-    let mut to = [UNUSED; 4096];
-    let mut work = [7u16; 28672];
-    let answer = skeleton(
-        at(given, 1),
+    let net = NetworkLists {
+        zones: at(given, 1),
         tails,
         heads,
-        part(given, 22, at(given, 21)),
+        gone: part(given, 22, at(given, 21)),
+    };
+    let mut from = [UNUSED; 4096];
+    let mut to = [UNUSED; 4096];
+    let mut work = [7; 28672];
+    let answer = skeleton(
+        net,
         front(&mut from, at(given, 2)),
         front(&mut to, at(given, 3)),
         front(&mut work, at(given, 4)),
     );
-    show(rt, answer)?;
-    show_rest(rt, given, &from, &to, &work)
+    print!(rt; ":")?;
+    printing::answer(rt, answer)?;
+    print!(rt; ";")?;
+    show_lists(rt, at(given, 2), &from, &to)?;
+    println!(rt; "; {}", others(part(&work, 0, at(given, 4)), 0))
 }
 
-// Arc i of a largest network. In the path it goes from i, around 1,020 zones (0), to a zone 1 to 5 further on (1); in
-// the ring from i, around 1,024 zones (2), to the next (3).
-fn end(which: usize, i: usize) -> u16 {
-    let zone = match which {
-        0 => i % 1020,
-        1 => i % 1020 + i / 1020 % 1024 + 1,
-        2 => i % 1024,
-        _ => i % 1024 + 1,
-    };
-    (zone % 1024) as u16
+// A path of 1,024 zones: arc i goes from zone i, around 1,020 zones, to a zone 1 to 5 further on.
+fn path(rt: &impl Print, given: &[u16]) -> io::Result<()> {
+    let tails: [u16; 4096] = array::from_fn(|i| (i % 1020) as u16);
+    let heads: [u16; 4096] = array::from_fn(|i| (i % 1020 + i / 1020 + 1) as u16);
+    ask(rt, given, &tails, &heads)
 }
 
-// The ends of 4,096 arcs.
-fn ends(which: usize) -> [u16; 4096] {
-    let mut list = [0u16; 4096];
-    let mut i = 0;
-    while i < 4096 {
-        list[i] = end(which, i);
-        i += 1;
-    }
-    list
-}
-
-// A largest network.
-fn largest(rt: &impl Print, given: &[u16]) -> io::Result<()> {
-    let tails = ends(at(given, 7));
-    let heads = ends(at(given, 7) % 4 + 1);
+// A ring of 1,024 zones: arc i goes from zone i, around 1,024 zones, to the next.
+fn ring(rt: &impl Print, given: &[u16]) -> io::Result<()> {
+    let tails: [u16; 4096] = array::from_fn(|i| (i % 1024) as u16);
+    let heads: [u16; 4096] = array::from_fn(|i| ((i + 1) % 1024) as u16);
     ask(rt, given, &tails, &heads)
 }
 
 // A row's network.
-fn run(rt: &impl Print, given: &[u16; 25]) -> io::Result<()> {
-    match at(given, 5) {
-        4096 => largest(rt, given),
-        4097 => ask(rt, given, &[0; 4097], &[1; 4097]),
-        n => ask(rt, given, part(given, 7, n), part(given, 14, at(given, 6))),
+fn run(rt: &impl Print, given: &[u16]) -> io::Result<()> {
+    // Kept (1): the table's text has these numbers, and an enum would be made of them only to be matched here.
+    match (at(given, 5), at(given, 7)) {
+        (4096, 0) => path(rt, given),
+        (4096, _) => ring(rt, given),
+        (4097, _) => ask(rt, given, &[0; 4097], &[1; 4097]),
+        (n, _) => ask(rt, given, part(given, 7, n), part(given, 14, at(given, 6))),
     }
-}
-
-// A row.
-fn row(rt: &impl Print, text: &[u8], from: usize) -> io::Result<usize>
-    requires { from < length text.now }
-    ensures { IfOk result (λ next. from < next) }
-{
-    let mut given = [0; 25];
-    let next = runtable::row(rt, text, from, &mut given)?;
-    run(rt, &given)?;
-    Ok(next)
-}
-
-// All rows.
-fn rows(rt: &impl Print, text: &[u8]) -> io::Result<()> {
-    let mut from = 0;
-    while from < text.len() {
-        from = row(rt, text, from)?;
-    }
-    Ok(())
 }
 
 // Document 01's case J, and the skeleton of its skeleton; small networks; each refusal, and lists of any length; and
@@ -209,5 +137,6 @@ fn main(rt: HostRuntime) -> io::Result<()> {
           room enough: 2 2 2 38 2 2 0 0 0 0 0 0 0 1 1;\
           1,024 zones in a path, with short cuts: 1024 4096 4096 28672 4096 4096 0;\
           1,024 zones in a ring, each arc four times: 1024 4096 4096 28672 4096 4096 2;",
+        |given| run(&rt, given),
     )
 }

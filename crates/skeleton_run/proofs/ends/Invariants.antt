@@ -1,9 +1,0 @@
--- `skeleton_run::ends` is safe and ends. The loop's invariant: the index stays within the list. Assumes nothing.
-use Rattle.std.proofs.Common.{◌-◌, ◌≤◌}
-use Rattle.skeleton_run.proofs.ends.Given as goal
-
-abbrev pub invariant-loop-i : goal.invariant-loop-i
-invariant-loop-i l = l.i ≤ 4096
-
-abbrev pub decreases-loop-i : goal.decreases-loop-i
-decreases-loop-i l = 4096 - l.i
