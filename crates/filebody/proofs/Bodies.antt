@@ -1,6 +1,7 @@
 -- A file past its counts, by its arcs and what follows them, and what is answered to it.
 --   body_refused, body_extra, body_ends   a file by its arcs and what follows them
 --   answered_bad, answered_got       the answer to a reading, and the lists that it leaves
+--   refusals                         what the proof of `body` cites where the file is refused
 -- Assumes nothing.
 use Prim.Native.Nat.{ℕ, ◌≤◌, ◌<◌}
 use mathlib.Core.Path.{◌≡◌}
@@ -45,3 +46,6 @@ pub answered_got : {r : Reading Given} {ts hs ts' hs' : List ℕ} {n m : ℕ} {e
     → ts' ≡ over (map (λ (e : Arc). e.tail) es) ts → hs' ≡ over (map (λ (e : Arc). e.head) es) hs
     → ReadingAnswered r ts hs (read_done n m) ts' hs'
 answered_got e l t h = record { told_is = rw (e, l); tails = rw e t; heads = rw e h }
+
+-- What the proof of `body` cites where the file is refused.
+pub ruleset refusals = (body_refused, body_extra, answered_bad)

@@ -10,6 +10,7 @@ use filepasses::FileArcs;
 use rules::{FileCounts, Trouble, TroubleKind};
 
 // The arcs of a file, and nothing after them: tested to the end, and only then stored.
+#[tactic(auto, using(crate::proofs::Bodies::refusals))]
 pub fn body(
     file: &[u8],
     due: FileArcs,

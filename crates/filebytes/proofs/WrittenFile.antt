@@ -1,13 +1,14 @@
 -- A network as it is written: its two counts and its arcs.
 --   arcs_short        an arc is written as at most six bytes
 --   written_length    the length of the file;   written_put   the file, put in part by part
+--   file_cases        what the proof of `write_file` cites
 -- Assumes nothing.
 use Prim.Native.Nat.{ℕ, ◌+◌, ◌*◌, ◌≤◌}
 use native.Mathlib.Omega.{arith}
 use mathlib.Core.Path.{◌≡◌, sym, ◌∙◌}
 use mathlib.Core.List.{List, [], ◌∷◌, ◌++◌}
 use lib.ListN.{length, length-append}
-use lib.Seq.{sets}
+use lib.Seq.{sets, length-sets}
 use Rattle.rules.specs.Lists.{over}
 use Rattle.rules.specs.Network.{Arc}
 use Rattle.rules.specs.Number.{number_bytes}
@@ -46,3 +47,6 @@ module _ (n : ℕ) (ts hs : List ℕ) (e : length ts ≡ length hs) where
       → f'' ≡ sets f' from (arcs_bytes (arcs_of ts hs)) → f'' ≡ over (written n ts hs) file
   written_put file h p q p' q' q'' =
       q'' ∙ sym (rw (← sets_whole file (written n ts hs) h, written_parts, sets_append, sets_append, q', p', q, p))
+
+-- What the proof of `write_file` cites.
+pub ruleset file_cases = (written_length, written_put, length-sets)

@@ -39,6 +39,7 @@ fn write_arcs(file: &mut [u8], from: usize, tails: &[u16], heads: &[u16])
 }
 
 // Puts the whole file in.
+#[tactic(auto, using(crate::proofs::WrittenFile::file_cases))]
 pub fn write_file(zones: usize, tails: &[u16], heads: &[u16], file: &mut [u8])
     requires counts_bound { (zones ≤ 1024) × ((length tails.now ≡ length heads.now) × (length tails.now ≤ 4096)) }
     requires has_room { length (written zones tails.now heads.now) ≤ length file.old }
