@@ -1,14 +1,16 @@
 // The C interface: each call of linkplan under a C name, with its answer in eight numbers. include/linkplan.h says the
 // same to a C programmer.
+// Kept (5): C hands a network over as a zone count and lists, and each function makes one `NetworkLists` of them.
 #![tactic(auto)]
 
 ghost use Rattle.rules.specs.Promises.{ReadPromise, WritePromise, StrongPromise, ReachPromise, SkeletonPromise};
 ghost use Rattle.rules.specs.Promises.{PlanPromise, CPromise};
 
-use eight::{put_plan, put_reach, put_read, put_skeleton, put_strong, put_write};
+use eight::put_answer;
 use netfile::{read, write};
 use network::{reach, strong};
 use plan::plan;
+use rules::NetworkLists;
 use skeleton::skeleton;
 
 // READ: reads a network file.
@@ -23,8 +25,7 @@ pub extern "C" fn linkplan_read(
         tails.new heads.new)
         answer.new }
 {
-    let a = read(file, tails, heads);
-    put_read(answer, a);
+    put_answer(answer, read(file, tails, heads));
 }
 
 // WRITE: writes a network file.
@@ -41,8 +42,13 @@ pub extern "C" fn linkplan_write(
         file.old file.new)
         answer.new }
 {
-    let a = write(zones, tails, heads, gone, file);
-    put_write(answer, a);
+    let net = NetworkLists {
+        zones,
+        tails,
+        heads,
+        gone,
+    };
+    put_answer(answer, write(net, file));
 }
 
 // STRONG: whether every zone reaches every zone.
@@ -59,8 +65,13 @@ pub extern "C" fn linkplan_strong(
         work.old work.new)
         answer.new }
 {
-    let a = strong(zones, tails, heads, gone, work);
-    put_strong(answer, a);
+    let net = NetworkLists {
+        zones,
+        tails,
+        heads,
+        gone,
+    };
+    put_answer(answer, strong(net, work));
 }
 
 // REACH: whether one zone reaches another.
@@ -79,8 +90,13 @@ pub extern "C" fn linkplan_reach(
         from to work.old work.new)
         answer.new }
 {
-    let a = reach(zones, tails, heads, gone, from, to, work);
-    put_reach(answer, a);
+    let net = NetworkLists {
+        zones,
+        tails,
+        heads,
+        gone,
+    };
+    put_answer(answer, reach(net, from, to, work));
 }
 
 // SKELETON: makes the skeleton.
@@ -100,8 +116,13 @@ pub extern "C" fn linkplan_skeleton(
         out_tails.new out_heads.new work.new)
         answer.new }
 {
-    let a = skeleton(zones, tails, heads, gone, out_tails, out_heads, work);
-    put_skeleton(answer, a);
+    let net = NetworkLists {
+        zones,
+        tails,
+        heads,
+        gone,
+    };
+    put_answer(answer, skeleton(net, out_tails, out_heads, work));
 }
 
 // PLAN: makes the plan.
@@ -122,6 +143,11 @@ pub extern "C" fn linkplan_plan(
         from.new to.new why.new work.new)
         answer.new }
 {
-    let a = plan(zones, tails, heads, gone, from, to, why, work);
-    put_plan(answer, a);
+    let net = NetworkLists {
+        zones,
+        tails,
+        heads,
+        gone,
+    };
+    put_answer(answer, plan(net, from, to, why, work));
 }

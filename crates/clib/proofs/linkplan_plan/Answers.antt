@@ -4,4 +4,4 @@ use Rattle.clib.proofs.linkplan_plan.Goals as goal
 
 pub returns : goal.returns
 returns c =
-    record { told = plan_told c.plan-a.result; kept = c.plan-a.ensures; answer = c.put_plan.ensures }
+    record { told = plan_told c.plan.result; kept = c.plan.ensures; answer = c.put_answer.ensures }

@@ -5,4 +5,4 @@ use Rattle.clib.proofs.linkplan_reach.Goals as goal
 
 pub returns : goal.returns
 returns c =
-    record { told = reach_told c.reach-a.result; kept = c.reach-a.ensures; answer = c.put_reach.ensures }
+    record { told = reach_told c.reach.result; kept = c.reach.ensures; answer = c.put_answer.ensures }

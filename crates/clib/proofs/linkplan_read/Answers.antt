@@ -4,4 +4,4 @@ use Rattle.clib.proofs.linkplan_read.Goals as goal
 
 pub returns : goal.returns
 returns c =
-    record { told = read_told c.read-a.result; kept = c.read-a.ensures; answer = c.put_read.ensures }
+    record { told = read_told c.read.result; kept = c.read.ensures; answer = c.put_answer.ensures }

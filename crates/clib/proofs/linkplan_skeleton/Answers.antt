@@ -5,4 +5,4 @@ use Rattle.clib.proofs.linkplan_skeleton.Goals as goal
 
 pub returns : goal.returns
 returns c =
-    record { told = skeleton_told c.skeleton-a.result; kept = c.skeleton-a.ensures; answer = c.put_skeleton.ensures }
+    record { told = skeleton_told c.skeleton.result; kept = c.skeleton.ensures; answer = c.put_answer.ensures }

@@ -5,4 +5,4 @@ use Rattle.clib.proofs.linkplan_strong.Goals as goal
 
 pub returns : goal.returns
 returns c =
-    record { told = strong_told c.strong-a.result; kept = c.strong-a.ensures; answer = c.put_strong.ensures }
+    record { told = strong_told c.strong.result; kept = c.strong.ensures; answer = c.put_answer.ensures }

@@ -4,4 +4,4 @@ use Rattle.clib.proofs.linkplan_write.Goals as goal
 
 pub returns : goal.returns
 returns c =
-    record { told = write_told c.write-a.result; kept = c.write-a.ensures; answer = c.put_write.ensures }
+    record { told = write_told c.write.result; kept = c.write.ensures; answer = c.put_answer.ensures }
