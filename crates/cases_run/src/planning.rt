@@ -4,34 +4,22 @@ ghost use Rattle.rules.specs.Answers.{plan_told};
 ghost use Rattle.rules.specs.Promises.{RecordsPromise};
 ghost use Rattle.cases_run.specs.Unset.{unset_links};
 
-use outcomes::outcome::{Columns, Outcome};
-use outcomes::{lent, outcome};
+use outcomes::lent;
+use outcomes::outcome::{self, Outcome};
 use records::plan_records;
-use rules::{Link, PlanAnswer, Why};
-
-// What PLAN over records answers, and the records that were lent to it.
-#[derive(Drop)]
-pub struct Asked {
-    pub answer: PlanAnswer,
-    pub links: [Link; 10],
-}
+use rules::{Link, NetworkLists, PlanCounts, Trouble, Why};
+use std::array;
 
 // The plan through three lists of ten elements, at least two more than there are zones.
-pub fn by_lists(zones: usize, tails: &[u16], heads: &[u16], gone: &[u16]) -> Outcome {
+pub fn by_lists(net: NetworkLists<'_>) -> Outcome {
     let mut from = [lent::UNSET; 10];
     let mut to = [lent::UNSET; 10];
     let mut why = [lent::UNSET; 10];
     let mut work = [lent::SEVEN; 170];
-    let answer = plan::plan(
-        zones, tails, heads, gone, &mut from, &mut to, &mut why, &mut work,
-    );
-    let kept = lent::kept_of(&work, zones, tails.len());
-    let c = Columns {
-        from: from,
-        to: to,
-        why: why,
-    };
-    outcome::planned(answer, c, lent::UNSET, kept)
+    let answer = plan::plan(net, &mut from, &mut to, &mut why, &mut work);
+    let links = array::from_fn(|i| [from[i], to[i], why[i]]);
+    let kept = lent::kept_of(&answer, &work, net);
+    outcome::planned(answer, links, [lent::UNSET; 3], kept)
 }
 
 // Ten records that no plan has.
@@ -45,55 +33,22 @@ pub fn unset() -> [Link; 10]
     }; 10]
 }
 
-// Asks PLAN over ten records, at least two more than there are zones.
-fn ask_records(zones: usize, tails: &[u16], heads: &[u16], gone: &[u16], work: &mut [u16]) -> Asked
-    ensures { RecordsPromise zones tails.now heads.now gone.now unset_links
-        work.old result.links work.new (plan_told result.answer) }
+// What PLAN answers over ten records, at least two more than there are zones, and the records.
+fn ask_records(net: NetworkLists<'_>, work: &mut [u16]) -> (Result<PlanCounts, Trouble>, [Link; 10])
+    ensures { RecordsPromise net.entry.zones net.entry.tails.now net.entry.heads.now net.entry.gone.now unset_links
+        work.old result.1 work.new (plan_told result.0) }
 {
     let mut links = unset();
-    let answer = plan_records(zones, tails, heads, gone, &mut links, work);
-    Asked {
-        answer: answer,
-        links: links,
-    }
-}
-
-// The number of a why.
-fn why_number(why: Why) -> u16 {
-    match why {
-        Why::Ring => 0,
-        Why::Chain => 1,
-        Why::Back => 2,
-    }
-}
-
-// Records as columns.
-fn columns(links: [Link; 10]) -> Columns {
-    let mut from = [0; 10];
-    let mut to = [0; 10];
-    let mut why = [0; 10];
-    let mut i = 0;
-    while i < 10 {
-        let l = links[i];
-        let w = l.why;
-        from[i] = l.from;
-        to[i] = l.to;
-        why[i] = why_number(w);
-        i += 1;
-    }
-    Columns {
-        from: from,
-        to: to,
-        why: why,
-    }
+    let answer = plan_records(net, &mut links, work);
+    (answer, links)
 }
 
 // The plan through ten records.
-pub fn by_records(zones: usize, tails: &[u16], heads: &[u16], gone: &[u16]) -> Outcome {
+pub fn by_records(net: NetworkLists<'_>) -> Outcome {
     let mut work = [lent::SEVEN; 170];
-    let asked = ask_records(zones, tails, heads, gone, &mut work);
-    let kept = lent::kept_of(&work, zones, tails.len());
-    let answer = asked.answer;
-    let links = asked.links;
-    outcome::planned(answer, columns(links), why_number(Why::Back), kept)
+    let (answer, links) = ask_records(net, &mut work);
+    let links = links.map(|link| [link.from, link.to, u16::from(link.why)]);
+    let unset = [lent::UNSET, lent::UNSET, u16::from(Why::Back)];
+    let kept = lent::kept_of(&answer, &work, net);
+    outcome::planned(answer, links, unset, kept)
 }
