@@ -10,11 +10,6 @@ use Rattle.withdrawn.proofs.stamp.Goals as goal
 low : (gone : List ℕ) (n : ℕ) → ((z : ℕ) → In z gone → z < n) → (k : ℕ) → k < length gone → get_or gone k 0 < n
 low gone n below k h = below (get_or gone k 0) (at_in gone k h)
 
-pub bounds-work-at : goal.bounds-work-at
-bounds-work-at c =
-    let R = c.requires in
-    omega (arith, low c.args.gone.now c.args.n R.gone_below, R.within, c.loop-zone.invariant.long)
-
 pub loop-zone-preserved : goal.loop-zone-preserved
 loop-zone-preserved c =
     let a = c.args in
@@ -22,3 +17,8 @@ loop-zone-preserved c =
     rw c.from.ensures
     (stamped_more a.work.now c.loop-zone.work a.gone.now a.at a.n k a.mark c.loop-zone.invariant
     c.requires.within (omega arith) (low a.gone.now a.n c.requires.gone_below k (omega arith)))
+
+pub bounds-work-at : goal.bounds-work-at
+bounds-work-at c =
+    let R = c.requires in
+    omega (arith, low c.args.gone.now c.args.n R.gone_below, R.within, c.loop-zone.invariant.long)
