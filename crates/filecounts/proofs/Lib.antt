@@ -1,3 +1,3 @@
--- The laws that the proofs of the two counts cite, and what is known of a file by its counts.
+-- What is known of a file by its two counts.
 pub mod Thens
 pub mod FileCounts
