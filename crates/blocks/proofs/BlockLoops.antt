@@ -15,9 +15,10 @@ use Rattle.rules.specs.Lists.{cleared}
 use Rattle.rules.specs.Network.{Arc}
 use Rattle.workmap.specs.declared.TableAt.{TableAt}
 use Rattle.memory.specs.Regions.{cell}
-use Rattle.memory.specs.Putting.{ArcsFit, ArcsPut}
+use Rattle.arcsink.specs.declared.ArcSink.{ArcSink}
+use Rattle.arcsink.specs.Sink.{SinkFit, SinkPut}
 use Rattle.memory.proofs.Cleared.{cleared_length, cleared_behind, cleared_back}
-use Rattle.memory.proofs.Puts.{put_none, put_then, put_long}
+use Rattle.arcsink.proofs.Sinks.{sink_none, sink_then, sink_long}
 use Rattle.uniting.specs.declared.Block.{Block}
 use Rattle.uniting.specs.Uniting.{row_heads, BlockLaid}
 use Rattle.uniting.proofs.Behind.{tops_kept, rows_kept, laid_kept}
@@ -60,15 +61,13 @@ module _ {w : List ℕ} {b : Block} (L : BlockLaid w b) (e : ℕ) (q : e ≡ blo
       ∙ ap₂ (λ (x : List ℕ) (k : ℕ). places_arcs (cell w b.tops) x b.first (row_heads w b) k k) c q
 
   -- they have room
-  pub block_room : (ts hs : List ℕ) (p : ℕ) →
-      ArcsFit ts hs p (block_arcs (cell w b.tops) w b.places b.first (row_heads w b)) →
-      ArcsFit ts hs p (places_arcs (cell v b.tops) v b.first (row_heads v b) e e)
-  block_room ts hs p R = rw arcs_are R
+  pub block_room : {s : ArcSink} → SinkFit s (block_arcs (cell w b.tops) w b.places b.first (row_heads w b)) →
+      SinkFit s (places_arcs (cell v b.tops) v b.first (row_heads v b) e e)
+  block_room R = rw arcs_are R
 
   -- what the block leaves
-  pub block_done : (u ts hs ts' hs' : List ℕ) (p r : ℕ) → PlacesTurned v u b e ts hs ts' hs' p r →
-      BlockDone w u b ts hs ts' hs' p r
-  block_done u ts hs ts' hs' p r S =
+  pub block_done : {u : List ℕ} {s s' : ArcSink} → PlacesTurned v u b e s s' → BlockDone w u b s s'
+  block_done S =
       record {
         long = ap length S.memory ∙ places_turned_long v b.first (row_heads v b) e e ∙ long;
         behind =
@@ -102,20 +101,19 @@ abbrev pub arcs_in : List ℕ → TableAt → ℕ → ℕ → List Arc
 arcs_in w at n k = all_arcs (cell w at.tops) w n (row_heads w (block_of at n 0)) k
 
 -- the first blocks are done
-pub record Blocking (w u : List ℕ) (at : TableAt) (n : ℕ) (ts hs ts' hs' : List ℕ) (p first next : ℕ) : Type 0 where
+pub record Blocking (w u : List ℕ) (at : TableAt) (n : ℕ) (s s' : ArcSink) (first : ℕ) : Type 0 where
   pub done : ℕ
   pub start : first ≡ done * 128
   pub low : done ≤ blocks_of n
   pub long : length u ≡ length w
   pub behind : drop (n * 8) u ≡ drop (n * 8) w
-  pub put : ArcsPut ts hs ts' hs' p (arcs_in w at n done) next
+  pub put : SinkPut s s' (arcs_in w at n done)
 
 -- at first none is
-pub blocking_start : (w : List ℕ) (at : TableAt) (n : ℕ) (ts hs : List ℕ) (p : ℕ) →
-    Blocking w w at n ts hs ts hs p 0 p
+pub blocking_start : (w : List ℕ) (at : TableAt) (n : ℕ) (s : ArcSink) → Blocking w w at n s s 0
 unfolding all_arcs
-blocking_start w at n ts hs p =
-    record { done = 0; start = refl; low = omega arith; long = refl; behind = refl; put = put_none ts hs p }
+blocking_start w at n s =
+    record { done = 0; start = refl; low = omega arith; long = refl; behind = refl; put = sink_none s }
 
 -- names and rows stand where they do, whichever block it is
 block_any : {w : List ℕ} (at : TableAt) (n first : ℕ) → BlockLaid w (block_of at n 0) →
@@ -133,8 +131,8 @@ block_any at n first L =
       heads = L.heads;
     }
 
-module _ {w u : List ℕ} {at : TableAt} {n : ℕ} {ts hs ts' hs' : List ℕ} {p first next : ℕ}
-    (L : BlockLaid w (block_of at n 0)) (B : Blocking w u at n ts hs ts' hs' p first next) (h : first < n) where
+module _ {w u : List ℕ} {at : TableAt} {n : ℕ} {s s' : ArcSink} {first : ℕ}
+    (L : BlockLaid w (block_of at n 0)) (B : Blocking w u at n s s' first) (h : first < n) where
   -- names and rows still stand behind the table
   pub blocking_laid : BlockLaid u (block_of at n first)
   blocking_laid = block_any at n first (laid_kept L u B.behind B.long)
@@ -167,34 +165,34 @@ module _ {w u : List ℕ} {at : TableAt} {n : ℕ} {ts hs ts' hs' : List ℕ} {p
   another = let start = B.start in omega arith
 
   -- its arcs have room
-  pub blocking_room : ArcsFit ts hs p (crossing_arcs w at n) → ArcsFit ts' hs' next new
+  pub blocking_room : SinkFit s (crossing_arcs w at n) → SinkFit s' new
   unfolding crossing_arcs
   blocking_room R =
       let few = all_few (cell w at.tops) w n (row_heads w (block_of at n 0)) (B.done + 1) (blocks_of n) another in
       let more = ap length grown in
       let both = length-append (arcs_in w at n B.done) new in
-      let long = put_long B.put in
+      let long = sink_long B.put in
       record {
-        tails = omega (arith, few, more, both, long.0, B.put.behind, R.tails);
-        heads = omega (arith, few, more, both, long.1, B.put.behind, R.heads);
+        tails = omega (arith, few, more, both, long.0, B.put.arcs.behind, R.tails);
+        heads = omega (arith, few, more, both, long.1, B.put.arcs.behind, R.heads);
       }
 
   -- one block more
-  pub blocking_turn : (v ts'' hs'' : List ℕ) (r : ℕ) → BlockDone u v (block_of at n first) ts' hs' ts'' hs'' next r →
-      Blocking w v at n ts hs ts'' hs'' p (first + 128) r
-  blocking_turn v ts'' hs'' r K =
+  pub blocking_turn : {v : List ℕ} {s'' : ArcSink} → BlockDone u v (block_of at n first) s' s'' →
+      Blocking w v at n s s'' (first + 128)
+  blocking_turn K =
       record {
         done = B.done + 1;
         start = let start = B.start in omega arith;
         low = another;
         long = K.long ∙ B.long;
         behind = K.behind ∙ B.behind;
-        put = rw grown (put_then B.put K.put);
+        put = rw grown (sink_then B.put K.put);
       }
 
 -- all of them
-pub blocking_end : {w u : List ℕ} {at : TableAt} {n : ℕ} {ts hs ts' hs' : List ℕ} {p first next : ℕ} →
-    Blocking w u at n ts hs ts' hs' p first next → n ≤ first → CrossingsPut w u at n ts hs ts' hs' p next
+pub blocking_end : {w u : List ℕ} {at : TableAt} {n : ℕ} {s s' : ArcSink} {first : ℕ} →
+    Blocking w u at n s s' first → n ≤ first → CrossingsPut w u at n s s'
 unfolding crossing_arcs
 blocking_end {n = n} B h =
     let all : B.done ≡ blocks_of n = let start = B.start in let low = B.low in omega arith in

@@ -9,8 +9,9 @@ use native.Mathlib.Omega.{arith}
 use lib.ListN.{length, drop, length-append}
 use Rattle.rules.specs.Network.{Arc}
 use Rattle.memory.specs.Regions.{cell}
-use Rattle.memory.specs.Putting.{ArcsFit, ArcsPut}
-use Rattle.memory.proofs.Puts.{put_none, put_then, put_long}
+use Rattle.arcsink.specs.declared.ArcSink.{ArcSink}
+use Rattle.arcsink.specs.Sink.{SinkFit, SinkPut}
+use Rattle.arcsink.proofs.Sinks.{sink_none, sink_then, sink_long}
 use Rattle.bits.proofs.Tables.{row_room}
 use Rattle.uniting.specs.declared.Block.{Block}
 use Rattle.turning.specs.Steps.{place_turned, place_arcs}
@@ -44,29 +45,28 @@ abbrev arcs_in : List ℕ → Block → ℕ → ℕ → List Arc
 arcs_in w b e m = places_arcs (cell w b.tops) w b.first (row_heads w b) e m
 
 -- all places but the first `left` have had their turns
-pub record TurningPlaces (w u : List ℕ) (b : Block) (e : ℕ) (ts hs ts' hs' : List ℕ) (p left next : ℕ) : Type 0 where
+pub record TurningPlaces (w u : List ℕ) (b : Block) (e : ℕ) (s s' : ArcSink) (left : ℕ) : Type 0 where
   pub low : left ≤ e
   pub long : length u ≡ length w
   pub behind : drop (b.places * 8) u ≡ drop (b.places * 8) w
   pub memory : u ≡ places_turned w b.first (row_heads w b) e (e - left)
-  pub put : ArcsPut ts hs ts' hs' p (arcs_in w b e (e - left)) next
+  pub put : SinkPut s s' (arcs_in w b e (e - left))
 
 -- at first none has
-pub places_start : (w : List ℕ) (b : Block) (e : ℕ) (ts hs : List ℕ) (p : ℕ) →
-    TurningPlaces w w b e ts hs ts hs p e p
+pub places_start : (w : List ℕ) (b : Block) (e : ℕ) (s : ArcSink) → TurningPlaces w w b e s s e
 unfolding places_turned places_arcs
-places_start w b e ts hs p =
+places_start w b e s =
     let none : e - e ≡ 0 = omega arith in
     record {
       low = omega arith;
       long = refl;
       behind = refl;
       memory = rw none;
-      put = rw none (put_none ts hs p);
+      put = rw none (sink_none s);
     }
 
-module _ {w u : List ℕ} {b : Block} {e : ℕ} {ts hs ts' hs' : List ℕ} {p left next : ℕ} (L : BlockLaid w b)
-    (l : e ≤ b.places) (S : TurningPlaces w u b e ts hs ts' hs' p left next) (h : 0 < left) where
+module _ {w u : List ℕ} {b : Block} {e : ℕ} {s s' : ArcSink} {left : ℕ} (L : BlockLaid w b)
+    (l : e ≤ b.places) (S : TurningPlaces w u b e s s' left) (h : 0 < left) where
   -- names and rows still stand behind the table
   pub places_laid : BlockLaid u b
   places_laid = laid_kept L u S.behind S.long
@@ -101,24 +101,24 @@ module _ {w u : List ℕ} {b : Block} {e : ℕ} {ts hs ts' hs' : List ℕ} {p le
   arcs_grown = rw (arcs_now, more, here)
 
   -- they have room
-  pub places_room : ArcsFit ts hs p (arcs_in w b e e) →
-      ArcsFit ts' hs' next (place_arcs (cell u b.tops) u b.first (left - 1) (row_heads u b (left - 1)))
+  pub places_room : SinkFit s (arcs_in w b e e) →
+      SinkFit s' (place_arcs (cell u b.tops) u b.first (left - 1) (row_heads u b (left - 1)))
   places_room R =
       let few = places_arcs_few (cell w b.tops) w b.first (row_heads w b) e (e - (left - 1)) e (omega arith) in
       let grown = ap length arcs_grown in
       let both = length-append (arcs_in w b e (e - left))
       (place_arcs (cell u b.tops) u b.first (left - 1) (row_heads u b (left - 1))) in
-      let long = put_long S.put in
+      let long = sink_long S.put in
       record {
-        tails = omega (arith, few, grown, both, long.0, S.put.behind, R.tails);
-        heads = omega (arith, few, grown, both, long.1, S.put.behind, R.heads);
+        tails = omega (arith, few, grown, both, long.0, S.put.arcs.behind, R.tails);
+        heads = omega (arith, few, grown, both, long.1, S.put.arcs.behind, R.heads);
       }
 
   -- one turn more
-  pub places_turn : (v ts'' hs'' : List ℕ) (r : ℕ) → PlaceTurned u v b (left - 1) ts' hs' ts'' hs'' next r →
-      TurningPlaces w v b e ts hs ts'' hs'' p (left - 1) r
+  pub places_turn : {v : List ℕ} {s'' : ArcSink} → PlaceTurned u v b (left - 1) s' s'' →
+      TurningPlaces w v b e s s'' (left - 1)
   unfolding places_turned
-  places_turn v ts'' hs'' r T =
+  places_turn T =
       record {
         low = omega (arith, S.low);
         long = ap length T.memory ∙ place_turned_long u b.first (left - 1) (row_heads u b (left - 1)) ∙ S.long;
@@ -132,5 +132,5 @@ module _ {w u : List ℕ} {b : Block} {e : ℕ} {ts hs ts' hs' : List ℕ} {p le
             ∙ ap (λ (f : ℕ → List ℕ). place_turned u b.first (left - 1) (f (left - 1))) (rows_kept L u S.behind)
             ∙ ap (λ (x : List ℕ). place_turned x b.first (left - 1) (row_heads w b (left - 1))) S.memory
             ∙ rw (more, here);
-        put = rw arcs_grown (put_then S.put T.put);
+        put = rw arcs_grown (sink_then S.put T.put);
       }

@@ -10,69 +10,49 @@
 
 ghost use Rattle.std.specs.Prelude.{◌≡◌, ◌≤◌};
 ghost use Rattle.memory.specs.Regions.{cell};
-ghost use Rattle.memory.specs.Putting.{ArcsFit};
+ghost use Rattle.arcsink.specs.Sink.{SinkFit};
 ghost use Rattle.uniting.specs.Uniting.{row_heads, BlockLaid};
 ghost use Rattle.blocks.specs.Sweeps.{places_arcs, block_arcs, block_of, crossing_arcs};
 ghost use Rattle.blocks.specs.Contract.{PlacesTurned, BlockDone, CrossingsPut};
 
+use arcsink::ArcSink;
 use memory::clear;
 use turning::turn;
 use uniting::Block;
 use workmap::TableAt;
 
-// The turns of the components before `end`, from the last on. Answers the next free place behind `put`.
-fn sweep(
-    work: &mut [u16],
-    b: Block,
-    end: usize,
-    tails: &mut [u16],
-    heads: &mut [u16],
-    put: usize,
-) -> usize
+// The turns of the components before `end`, from the last on.
+fn sweep(work: &mut [u16], b: Block, end: usize, sink: &mut ArcSink<'_>)
     requires block_laid { BlockLaid work.old b }
     requires end_le_places { end ≤ b.places }
-    requires arcs_fit { ArcsFit tails.old heads.old put
+    requires arcs_fit { SinkFit sink.old
         (places_arcs (cell work.old b.tops) work.old b.first (row_heads work.old b) end end) }
-    ensures { PlacesTurned work.old work.new b end tails.old
-        heads.old tails.new heads.new put result }
+    ensures { PlacesTurned work.old work.new b end sink.old sink.new }
 {
-    let mut next = put;
     for j in (0..end).rev() {
-        next = turn(work, b, j, tails, heads, next);
+        turn(work, b, j, sink);
     }
-    next
 }
 
-// One block, in a table that is cleared first. Answers the next free place behind `put`.
-fn block(work: &mut [u16], b: Block, tails: &mut [u16], heads: &mut [u16], put: usize) -> usize
+// One block, in a table that is cleared first.
+fn block(work: &mut [u16], b: Block, sink: &mut ArcSink<'_>)
     requires block_laid { BlockLaid work.old b }
     requires first_le_1024 { b.first ≤ 1024 }
-    requires arcs_fit { ArcsFit tails.old heads.old put
+    requires arcs_fit { SinkFit sink.old
         (block_arcs (cell work.old b.tops) work.old b.places b.first (row_heads work.old b)) }
-    ensures { BlockDone work.old work.new b tails.old
-        heads.old tails.new heads.new put result }
+    ensures { BlockDone work.old work.new b sink.old sink.new }
 {
     let end = (b.first + 128).min(b.places);
     clear(work, b.places * 8);
-    sweep(work, b, end, tails, heads, put)
+    sweep(work, b, end, sink);
 }
 
-// Puts the arcs between the first `places` components that stay, each once, in no order. Answers the next free place
-// behind `put`.
-pub fn cross(
-    work: &mut [u16],
-    at: TableAt,
-    places: usize,
-    tails: &mut [u16],
-    heads: &mut [u16],
-    put: usize,
-) -> usize
+// Puts the arcs between the first `places` components that stay, each once, in no order.
+pub fn cross(work: &mut [u16], at: TableAt, places: usize, sink: &mut ArcSink<'_>)
     requires block_laid { BlockLaid work.old (block_of at places 0) }
-    requires arcs_fit { ArcsFit tails.old heads.old put (crossing_arcs work.old at places) }
-    ensures { CrossingsPut work.old work.new at places tails.old
-        heads.old tails.new heads.new put result }
+    requires arcs_fit { SinkFit sink.old (crossing_arcs work.old at places) }
+    ensures { CrossingsPut work.old work.new at places sink.old sink.new }
 {
-    let mut next = put;
     for first in (0..places).step_by(128) {
         let b = Block {
             places,
@@ -81,7 +61,6 @@ pub fn cross(
             starts: at.rows.starts,
             rows: at.rows.rows,
         };
-        next = block(work, b, tails, heads, next);
+        block(work, b, sink);
     }
-    next
 }

@@ -15,10 +15,11 @@ use Rattle.rules.specs.Calls.{handed, asked_work}
 use Rattle.theory.proofs.Ground.ArcLists.{arcs_length}
 use Rattle.workmap.specs.Map.{names_at, rings_at, table_at}
 use Rattle.memory.specs.Regions.{cell}
-use Rattle.memory.specs.Putting.{ArcsFit}
+use Rattle.arcsink.specs.declared.ArcSink.{ArcSink}
+use Rattle.arcsink.specs.Sink.{SinkFit}
+use Rattle.arcsink.proofs.Sinks.{sink_then, sink_long}
 use Rattle.memory.proofs.Regions.{at_kept}
 use Rattle.memory.proofs.Places.{drop_deeper}
-use Rattle.memory.proofs.Puts.{put_then, put_long}
 use Rattle.rings.specs.Rings.{rings_of, RingsLent, RingsPut}
 use Rattle.rings.proofs.Following.{rings_in, rings_ends, in_rings, rings_once, rings_short}
 use Rattle.sorting.proofs.Parts.{SkeletonParts, whole_twice, whole_short, whole_between}
@@ -44,8 +45,8 @@ named_kept w w' n ts hs k long same N =
           (λ j h. at_kept w w' (names_at n).tops ((names_at n).tops + j) (omega arith) same) N.ordered;
     }
 
-module _ (w : List ℕ) (n : ℕ) (ts hs : List ℕ) (k : ℕ) (N : Named w n ts hs k) (ots ohs : List ℕ)
-    (tails_room : length ts ≤ length ots) (heads_room : length ts ≤ length ohs) where
+module _ (w : List ℕ) (n : ℕ) (ts hs : List ℕ) (k : ℕ) (N : Named w n ts hs k) (s : ArcSink)
+    (empty : s.len ≡ 0) (tails_room : length ts ≤ length s.tails.now) (heads_room : length ts ≤ length s.heads.now) where
   -- the network has as many arcs as tails
   many : length (handed n ts hs).arcs ≡ length ts
   unfolding handed
@@ -71,20 +72,20 @@ module _ (w : List ℕ) (n : ℕ) (ts hs : List ℕ) (k : ℕ) (N : Named w n ts
       }
 
   -- and have room
-  pub rings_fit : ArcsFit ots ohs 0 ring_arcs
+  pub rings_fit : SinkFit s ring_arcs
   rings_fit =
       let short = rings_short (named_proper w n ts hs k N) n zones (cell w (names_at n).names) N.named in
       record { tails = omega (arith, short, many); heads = omega (arith, short, many) }
 
   -- w₁ is the memory once they are put, w₂ once the network of the components is laid out
-  module _ (w₁ ots₁ ohs₁ : List ℕ) (r₁ : ℕ) (P : RingsPut w w₁ (rings_at n) ots ohs ots₁ ohs₁ 0 r₁) where
+  module _ {w₁ : List ℕ} {s₁ : ArcSink} (P : RingsPut w w₁ (rings_at n) s s₁) where
     -- the names are still there
     pub named_then : Named w₁ n ts hs k
     named_then =
         named_kept w w₁ n ts hs k P.long
         (drop_deeper w w₁ ((rings_at n).last + n) (names_at n).tops (omega arith) P.high) N
 
-    module _ (w₂ : List ℕ) (T : Tabled w₁ w₂ n ts hs k) where
+    module _ {w₂ : List ℕ} (T : Tabled w₁ w₂ n ts hs k) where
       -- the arcs between components
       abbrev pub cross_arcs : List Arc
       cross_arcs = crossing_arcs w₂ (table_at n) k
@@ -114,23 +115,23 @@ module _ (w : List ℕ) (n : ℕ) (ts hs : List ℕ) (k : ℕ) (N : Named w n ts
       both_few = omega (arith, whole_short (named_proper w n ts hs k N) parts n zones, many)
 
       -- behind the rings' arcs those between components have room
-      pub cross_fit : ArcsFit ots₁ ohs₁ r₁ cross_arcs
+      pub cross_fit : SinkFit s₁ cross_arcs
       cross_fit =
-          let long = put_long P.arcs in
+          let long = sink_long P.arcs in
           let both = length-append ring_arcs cross_arcs in
           record {
-            tails = omega (arith, P.arcs.behind, both, both_few, long.0);
-            heads = omega (arith, P.arcs.behind, both, both_few, long.1);
+            tails = omega (arith, P.arcs.arcs.behind, both, both_few, long.0);
+            heads = omega (arith, P.arcs.arcs.behind, both, both_few, long.1);
           }
 
       -- w₃ is the memory once they are put: they are the skeleton's arcs
-      pub drawn : (w₃ ots₂ ohs₂ : List ℕ) (r₂ : ℕ) →
-          CrossingsPut w₂ w₃ (table_at n) k ots₁ ohs₁ ots₂ ohs₂ r₁ r₂ → Drawn w w₃ n ts hs ots ohs ots₂ ohs₂ r₂
-      drawn w₃ ots₂ ohs₂ r₂ Q =
+      pub drawn : {w₃ : List ℕ} {s₂ : ArcSink} → CrossingsPut w₂ w₃ (table_at n) k s₁ s₂ →
+          Drawn w w₃ n ts hs s.tails.now s.heads.now s₂.tails.now s₂.heads.now s₂.len
+      drawn {w₃} Q =
           let asked = asked_work n (length ts) in
           record {
             arcs = ring_arcs ++ cross_arcs;
-            put = put_then P.arcs Q.put;
+            put = rw empty at (sink_then P.arcs Q.put).arcs;
             few = both_few;
             between = whole_between (named_proper w n ts hs k N) parts n zones;
             sorted = whole_twice (named_proper w n ts hs k N) parts n zones;
@@ -140,3 +141,8 @@ module _ (w : List ℕ) (n : ℕ) (ts hs : List ℕ) (k : ℕ) (N : Named w n ts
                 ∙ T.beyond
                 ∙ drop_deeper w w₁ ((rings_at n).last + n) asked (omega arith) P.high;
           }
+
+-- the same of lists that are equal
+pub drawn_lists : {w w' ts hs ots ohs xs ys xs' ys' : List ℕ} {n r : ℕ} → Drawn w w' n ts hs ots ohs xs' ys' r →
+    xs ≡ xs' → ys ≡ ys' → Drawn w w' n ts hs ots ohs xs ys r
+drawn_lists D e f = rw (e, f) D

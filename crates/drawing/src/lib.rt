@@ -8,6 +8,7 @@ ghost use Rattle.std.specs.Prelude.{◌≡◌, ◌≤◌, length};
 ghost use Rattle.workmap.specs.Map.{map_of};
 ghost use Rattle.drawing.specs.Drawing.{Named, Tabled, Drawn};
 
+use arcsink::ArcSink;
 use blocks::cross;
 use condense::condense;
 use rings::put_rings;
@@ -44,7 +45,13 @@ pub fn draw(
         heads.now from.old to.old from.new to.new result }
 {
     let table = m.table;
-    let rings = put_rings(work, m.rings, from, to, 0);
+    let mut sink = ArcSink {
+        tails: from,
+        heads: to,
+        len: 0,
+    };
+    put_rings(work, m.rings, &mut sink);
     lay_table(m, places, tails, heads, work);
-    cross(work, table, places, from, to, rings)
+    cross(work, table, places, &mut sink);
+    sink.len
 }

@@ -24,11 +24,12 @@ use Rattle.theory.proofs.Ground.Ascending.{span_length}
 use Rattle.theory.proofs.Ground.Ascending.{span_more}
 use Rattle.workmap.specs.declared.RingsAt.{RingsAt}
 use Rattle.memory.specs.Regions.{cell}
-use Rattle.memory.specs.Putting.{ArcsFit, ArcsPut}
 use Rattle.memory.proofs.Numbers.{same?}
 use Rattle.memory.proofs.Regions.{at_kept}
 use Rattle.memory.proofs.Stores.{sets_more, take_sets, drop_sets, getD_sets_at}
-use Rattle.memory.proofs.Puts.{put_none, put_one, put_then, put_long}
+use Rattle.arcsink.specs.declared.ArcSink.{ArcSink}
+use Rattle.arcsink.specs.Sink.{SinkFit, SinkPut}
+use Rattle.arcsink.proofs.Sinks.{sink_none, sink_then, sink_long}
 use Rattle.rings.specs.Rings.{next_round, ring_arc, rings_of, RingsLent, RingPut}
 
 -- one name more is noted at the start
@@ -54,35 +55,32 @@ pub ring_none : (z b : ℕ) → b ≡ z → ring_arc z b ≡ []
 unfolding ring_arc
 ring_none z b e = rw (eq-eqb b z e, ring_arc)
 
-module _ (w : List ℕ) (R : RingsAt) (z : ℕ) (ts hs : List ℕ) (put x : ℕ) (name : x ≡ cell w R.names z) where
+module _ (w : List ℕ) (R : RingsAt) (z x : ℕ) (name : x ≡ cell w R.names z) where
   -- what is noted for the name of the zone, once the name is read
   same_next : cell w R.last (cell w R.names z) ≡ cell w R.last x
   same_next = ap (cell w R.last) (sym name)
 
   -- where that is another zone, the arc to it is put
-  pub put_followed : (cell w R.last x ≡ z → ⊥)
-      → RingPut w (set w (R.last + x) z) R z ts hs (set ts put z) (set hs put (cell w R.last x)) put (put + 1)
-  put_followed other =
+  pub put_followed : (cell w R.last x ≡ z → ⊥) → {s s' : ArcSink} → SinkPut s s' ((z ⟶ cell w R.last x) ∷ [])
+      → RingPut w (set w (R.last + x) z) R z s s'
+  put_followed other P =
       record {
-        arc = rw (same_next, ring_one z (cell w R.last x) other) (put_one ts hs put z (cell w R.last x));
+        arc = rw (same_next, ring_one z (cell w R.last x) other) P;
         noted = ap (λ (k : ℕ). set w (R.last + k) z) name;
       }
 
   -- where it is the zone, none is put
-  pub put_alone : cell w R.last x ≡ z → RingPut w (set w (R.last + x) z) R z ts hs ts hs put put
-  put_alone own =
+  pub put_alone : cell w R.last x ≡ z → (s : ArcSink) → RingPut w (set w (R.last + x) z) R z s s
+  put_alone own s =
       record {
-        arc = rw (same_next, ring_none z (cell w R.last x) own) (put_none ts hs put);
+        arc = rw (same_next, ring_none z (cell w R.last x) own) (sink_none s);
         noted = ap (λ (k : ℕ). set w (R.last + k) z) name;
       }
 
-  -- where the arc out of the zone has room, both lists are longer than its place
-  pub put_fits : (cell w R.last x ≡ z → ⊥)
-      → ArcsFit ts hs put (ring_arc z (cell w R.last (cell w R.names z)))
-      → (put < length ts) × (put < length hs)
-  put_fits other F =
-      let one = ap length (ap (ring_arc z) same_next ∙ ring_one z (cell w R.last x) other) in
-      (omega (arith, F.tails), omega (arith, F.heads))
+  -- and it has room
+  pub put_fits : (cell w R.last x ≡ z → ⊥) → {s : ArcSink}
+      → SinkFit s (ring_arc z (cell w R.last (cell w R.names z))) → SinkFit s ((z ⟶ cell w R.last x) ∷ [])
+  put_fits other F = rw (same_next, ring_one z (cell w R.last x) other) at F
 
 -- one zone more, from a zone on
 span_next : (n z : ℕ) → 0 < z → z ≤ n → span (z - 1) (n - (z - 1)) ≡ (z - 1) ∷ span z (n - z)
@@ -115,9 +113,9 @@ module _ (name : ℕ → ℕ) where
       omega arith
 
 -- the zones from z on are passed
-pub record Passing (w u : List ℕ) (R : RingsAt) (ts hs ts' hs' : List ℕ) (put z next : ℕ) : Type 0 where
+pub record Passing (w u : List ℕ) (R : RingsAt) (s s' : ArcSink) (z : ℕ) : Type 0 where
   pub below : z ≤ R.zones
-  pub arcs : ArcsPut ts hs ts' hs' put (rings_of (cell w R.names) (span z (R.zones - z))) next
+  pub arcs : SinkPut s s' (rings_of (cell w R.names) (span z (R.zones - z)))
   pub lowest : (a : ℕ) → a < R.zones
       → cell u R.last a ≡ next_round (cell w R.names) (span z (R.zones - z)) a
   pub long : length u ≡ length w
@@ -125,17 +123,17 @@ pub record Passing (w u : List ℕ) (R : RingsAt) (ts hs ts' hs' : List ℕ) (pu
   pub high : drop (R.last + R.zones) u ≡ drop (R.last + R.zones) w
 
 -- at the start no zone is passed, and each name comes next in its ring
-pub passing_start : {w : List ℕ} {R : RingsAt} (ts hs : List ℕ) (put : ℕ) → RingsLent w R
-    → Passing w (sets w R.last (span 0 R.zones)) R ts hs ts hs put R.zones put
+pub passing_start : {w : List ℕ} {R : RingsAt} (s : ArcSink) → RingsLent w R
+    → Passing w (sets w R.last (span 0 R.zones)) R s s R.zones
 unfolding rings_of
-passing_start {w} {R} ts hs put L =
+passing_start {w} {R} s L =
     let n = R.zones in
     let none : n - n ≡ 0 = omega arith in
     let size = span_length 0 n in
     let room : R.last + length (span 0 n) ≤ length w = omega (arith, size, L.apart, L.fits) in
     record {
       below = omega arith;
-      arcs = rw none (put_none ts hs put);
+      arcs = rw none (sink_none s);
       lowest = λ a h.
           getD_sets_at w R.last (span 0 n) a room (omega arith)
           ∙ span_at 0 n a h
@@ -146,8 +144,8 @@ passing_start {w} {R} ts hs put L =
       high = drop_sets w R.last (span 0 n) (R.last + n) (omega arith);
     }
 
-module _ {w u : List ℕ} {R : RingsAt} {ts hs ts' hs' : List ℕ} {put z next : ℕ} (L : RingsLent w R)
-    (P : Passing w u R ts hs ts' hs' put z next) where
+module _ {w u : List ℕ} {R : RingsAt} {s s' : ArcSink} {z : ℕ} (L : RingsLent w R)
+    (P : Passing w u R s s' z) where
   -- the names are as they came
   kept : (v : ℕ) → cell u R.names v ≡ cell w R.names v
   kept v = at_kept w u (R.last + R.zones) (R.names + v) (omega (arith, L.apart)) P.high
@@ -171,8 +169,8 @@ module _ {w u : List ℕ} {R : RingsAt} {ts hs ts' hs' : List ℕ} {put z next :
         ∙ P.lowest (cell w R.names (z - 1)) (L.named (z - 1) (omega (arith, P.below)))
 
     -- its arc has room
-    pub passing_room : ArcsFit ts hs put (rings_of (cell w R.names) (span 0 R.zones))
-        → ArcsFit ts' hs' next (ring_arc (z - 1) (cell u R.last (cell u R.names (z - 1))))
+    pub passing_room : SinkFit s (rings_of (cell w R.names) (span 0 R.zones))
+        → SinkFit s' (ring_arc (z - 1) (cell u R.last (cell u R.names (z - 1))))
     passing_room F =
         let f = cell w R.names in
         let n = R.zones in
@@ -182,16 +180,16 @@ module _ {w u : List ℕ} {R : RingsAt} {ts hs ts' hs' : List ℕ} {put z next :
         (ring_arc (z - 1) (next_round f (span z (n - z)) (f (z - 1))))
         in
         let same = ap (λ (b : ℕ). length (ring_arc (z - 1) b)) follower in
-        let long = put_long P.arcs in
+        let long = sink_long P.arcs in
         record {
-          tails = omega (arith, F.tails, P.arcs.behind, long.0);
-          heads = omega (arith, F.heads, P.arcs.behind, long.1);
+          tails = omega (arith, F.tails, P.arcs.arcs.behind, long.0);
+          heads = omega (arith, F.heads, P.arcs.arcs.behind, long.1);
         }
 
     -- one zone more is passed
-    pub passing_turn : (u' ts'' hs'' : List ℕ) (r : ℕ) → RingPut u u' R (z - 1) ts' hs' ts'' hs'' next r
-        → Passing w u' R ts hs ts'' hs'' put (z - 1) r
-    passing_turn u' ts'' hs'' r Q =
+    pub passing_turn : {u' : List ℕ} {s'' : ArcSink} → RingPut u u' R (z - 1) s' s''
+        → Passing w u' R s s'' (z - 1)
+    passing_turn Q =
         let f = cell w R.names in
         let n = R.zones in
         let a = cell u R.names (z - 1) in
@@ -201,7 +199,7 @@ module _ {w u : List ℕ} {R : RingsAt} {ts hs ts' hs' : List ℕ} {put z next :
           below = omega (arith, P.below);
           arcs =
               rw (grown f n z some P.below)
-              (put_then P.arcs (rw follower at Q.arc));
+              (sink_then P.arcs (rw follower at Q.arc));
           lowest = λ b h. ap (λ (l : List ℕ). cell l R.last b) Q.noted ∙ noted b h here;
           long = ap length Q.noted ∙ length-set u (R.last + a) (z - 1) ∙ P.long;
           low = ap (take R.last) Q.noted ∙ take-set-le R.last u (R.last + a) (z - 1) (omega arith) ∙ P.low;

@@ -10,7 +10,8 @@ use Rattle.rules.specs.Lists.{span, first}
 use Rattle.rules.specs.Network.{Arc, ◌⟶◌}
 use Rattle.workmap.specs.declared.RingsAt.{RingsAt}
 use Rattle.memory.specs.Regions.{cell}
-use Rattle.memory.specs.Putting.{ArcsPut}
+use Rattle.arcsink.specs.declared.ArcSink.{ArcSink}
+use Rattle.arcsink.specs.Sink.{SinkPut}
 
 -- what comes next in the ring named a: the first of the zones with that name, or a where there is none
 abbrev pub next_round : (ℕ → ℕ) → List ℕ → ℕ → ℕ
@@ -34,13 +35,13 @@ pub record RingsLent (w : List ℕ) (R : RingsAt) : Type 0 where
   pub named : (v : ℕ) → v < R.zones → cell w R.names v < R.zones
 
 -- the arc out of z is put, to the lowest zone of its component so far, and z is noted as the lowest
-pub record RingPut (w w' : List ℕ) (R : RingsAt) (z : ℕ) (ts hs ts' hs' : List ℕ) (put r : ℕ) : Type 0 where
-  pub arc : ArcsPut ts hs ts' hs' put (ring_arc z (cell w R.last (cell w R.names z))) r
+pub record RingPut (w w' : List ℕ) (R : RingsAt) (z : ℕ) (s s' : ArcSink) : Type 0 where
+  pub arc : SinkPut s s' (ring_arc z (cell w R.last (cell w R.names z)))
   pub noted : w' ≡ set w (R.last + cell w R.names z) z
 
 -- the arcs of all rings are put; before and behind the lowest zones the memory is as it was
-pub record RingsPut (w w' : List ℕ) (R : RingsAt) (ts hs ts' hs' : List ℕ) (put r : ℕ) : Type 0 where
-  pub arcs : ArcsPut ts hs ts' hs' put (rings_of (cell w R.names) (span 0 R.zones)) r
+pub record RingsPut (w w' : List ℕ) (R : RingsAt) (s s' : ArcSink) : Type 0 where
+  pub arcs : SinkPut s s' (rings_of (cell w R.names) (span 0 R.zones))
   pub long : length w' ≡ length w
   pub low : take R.last w' ≡ take R.last w
   pub high : drop (R.last + R.zones) w' ≡ drop (R.last + R.zones) w

@@ -7,14 +7,13 @@ use mathlib.Core.Path.{◌≡◌, sym, ◌∙◌}
 use mathlib.Core.Logic.{inl, inr}
 use mathlib.Core.Bool.{true, false}
 use mathlib.Core.List.{List, [], ◌∷◌, map}
-use Prim.Native.Nat.{ℕ, ◌+◌, ◌-◌, ◌<◌}
-use native.Mathlib.Omega.{arith}
-use lib.ListN.{length, set}
+use Prim.Native.Nat.{ℕ, ◌-◌}
 use Rattle.rules.specs.Network.{◌⟶◌}
 use Rattle.theory.proofs.Ground.Bools.{bool_cases}
 use Rattle.memory.specs.Regions.{cell}
-use Rattle.memory.specs.Putting.{ArcsFit}
-use Rattle.memory.proofs.Puts.{put_none, put_one}
+use Rattle.arcsink.specs.declared.ArcSink.{ArcSink}
+use Rattle.arcsink.specs.Sink.{SinkFit, SinkPut}
+use Rattle.arcsink.proofs.Sinks.{sink_none}
 use Rattle.bits.specs.Bits.{with_bit}
 use Rattle.uniting.specs.declared.Block.{Block}
 use Rattle.taking.specs.Taking.{fresh, taken_arcs}
@@ -33,31 +32,28 @@ module _ (top : ℕ → ℕ) (w : List ℕ) (first j k : ℕ) where
   arcs_no e = rw (e, taken_arcs)
 
   -- there is room for the arc of a fresh head
-  pub take_room : (ts hs : List ℕ) (at : ℕ) → fresh w first j k ≡ true →
-      ArcsFit ts hs at (taken_arcs top w first j k) → (at < length ts) × (at < length hs)
-  take_room ts hs at e R =
-      let Q : ArcsFit ts hs at ((top j ⟶ top k) ∷ []) = rw (arcs_yes e) at R in
-      (omega (arith, Q.tails), omega (arith, Q.heads))
+  pub take_room : fresh w first j k ≡ true → {s : ArcSink} →
+      SinkFit s (taken_arcs top w first j k) → SinkFit s ((top j ⟶ top k) ∷ [])
+  take_room e R = rw (arcs_yes e) at R
 
 -- a head that is not fresh leaves everything as it was
-pub take_skip : (w : List ℕ) (b : Block) (j k : ℕ) (ts hs : List ℕ) (at : ℕ) → fresh w b.first j k ≡ false →
-    HeadTaken w w b j k ts hs ts hs at at
-take_skip w b j k ts hs at e =
+pub take_skip : (w : List ℕ) (b : Block) (j k : ℕ) (s : ArcSink) → fresh w b.first j k ≡ false →
+    HeadTaken w w b j k s s
+take_skip w b j k s e =
     record {
       memory = sym (taken_no w b.first j k e);
-      put = rw (arcs_no (cell w b.tops) w b.first j k e) (put_none ts hs at);
+      put = rw (arcs_no (cell w b.tops) w b.first j k e) (sink_none s);
     }
 
 -- a fresh one is marked, and its arc is put
-pub take_hit : (w v : List ℕ) (b : Block) (j k : ℕ) (ts hs : List ℕ) (at : ℕ) → fresh w b.first j k ≡ true →
-    v ≡ with_bit w 8 j (k - b.first) →
-    HeadTaken w v b j k ts hs (set ts at (cell w b.tops j)) (set hs at (cell w b.tops k)) at (at + 1)
-take_hit w v b j k ts hs at e q =
+pub take_hit : (w v : List ℕ) (b : Block) (j k : ℕ) → fresh w b.first j k ≡ true →
+    v ≡ with_bit w 8 j (k - b.first) → {s s' : ArcSink} →
+    SinkPut s s' ((cell w b.tops j ⟶ cell w b.tops k) ∷ []) → HeadTaken w v b j k s s'
+take_hit w v b j k e q P =
     record {
       memory = q ∙ sym (taken_yes w b.first j k e);
       put =
-          rw (arcs_yes (cell w b.tops) w b.first j k e)
-          (put_one ts hs at (cell w b.tops j) (cell w b.tops k));
+          rw (arcs_yes (cell w b.tops) w b.first j k e) P;
     }
 
 -- the head, where it is fresh

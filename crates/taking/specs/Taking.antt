@@ -8,7 +8,8 @@
 use Rattle.std.specs.Prelude.{◌≡◌, Bool, true, false, not, ◌&&◌, List, [], ◌∷◌, ℕ, ◌-◌, leb, ltb}
 use Rattle.rules.specs.Network.{Arc, ◌⟶◌}
 use Rattle.memory.specs.Regions.{cell}
-use Rattle.memory.specs.Putting.{ArcsPut}
+use Rattle.arcsink.specs.declared.ArcSink.{ArcSink}
+use Rattle.arcsink.specs.Sink.{SinkPut}
 use Rattle.bits.specs.Bits.{bit_in, with_bit}
 use Rattle.uniting.specs.declared.Block.{Block}
 
@@ -28,6 +29,6 @@ unfolding fresh
 taken_arcs top w first j k = elim (fresh w first j k) [ true ↦ (top j ⟶ top k) ∷ [] | false ↦ [] ]
 
 -- the head k of component j was taken
-pub record HeadTaken (w w' : List ℕ) (b : Block) (j k : ℕ) (ts hs ts' hs' : List ℕ) (at r : ℕ) : Type 0 where
+pub record HeadTaken (w w' : List ℕ) (b : Block) (j k : ℕ) (s s' : ArcSink) : Type 0 where
   pub memory : w' ≡ taken w b.first j k
-  pub put : ArcsPut ts hs ts' hs' at (taken_arcs (cell w b.tops) w b.first j k) r
+  pub put : SinkPut s s' (taken_arcs (cell w b.tops) w b.first j k)

@@ -4,10 +4,11 @@
 
 ghost use Rattle.std.specs.Prelude.{◌≡◌, ◌+◌, ◌*◌, ◌≤◌, ◌<◌, length};
 ghost use Rattle.memory.specs.Regions.{cell};
-ghost use Rattle.memory.specs.Putting.{ArcsFit};
+ghost use Rattle.arcsink.specs.Sink.{SinkFit};
 ghost use Rattle.uniting.specs.Uniting.{BlockLaid};
 ghost use Rattle.taking.specs.Taking.{fresh, taken_arcs, HeadTaken};
 
+use arcsink::ArcSink;
 use bits::{has_bit, set_bit};
 use uniting::Block;
 
@@ -21,29 +22,16 @@ fn is_fresh(work: &[u16], first: usize, j: usize, k: usize) -> bool
 }
 
 // Where the head k of component j is fresh: puts k into row j, and the arc from the one's name to the other's into the
-// lists. A head that stands twice is not fresh any more the second time. Answers the next free place.
-pub fn take(
-    work: &mut [u16],
-    b: Block,
-    j: usize,
-    k: usize,
-    tails: &mut [u16],
-    heads: &mut [u16],
-    at: usize,
-) -> usize
+// lists. A head that stands twice is not fresh any more the second time.
+pub fn take(work: &mut [u16], b: Block, j: usize, k: usize, sink: &mut ArcSink<'_>)
     requires block_laid { BlockLaid work.old b }
     requires j_and_k_lt_places { (j < b.places) × (k < b.places) }
-    requires arcs_fit { ArcsFit tails.old heads.old at
-        (taken_arcs (cell work.old b.tops) work.old b.first j k) }
-    ensures { HeadTaken work.old work.new b j k tails.old
-        heads.old tails.new heads.new at result }
+    requires arcs_fit { SinkFit sink.old (taken_arcs (cell work.old b.tops) work.old b.first j k) }
+    ensures { HeadTaken work.old work.new b j k sink.old sink.new }
 {
-    if !is_fresh(work, b.first, j, k) {
-        return at;
+    if is_fresh(work, b.first, j, k) {
+        let bit = k - b.first;
+        sink.put(work[b.tops + j], work[b.tops + k]);
+        set_bit(work, 8, j, bit);
     }
-    let bit = k - b.first;
-    tails[at] = work[b.tops + j];
-    heads[at] = work[b.tops + k];
-    set_bit(work, 8, j, bit);
-    at + 1
 }

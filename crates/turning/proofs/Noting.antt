@@ -9,8 +9,9 @@ use native.Mathlib.Omega.{arith}
 use lib.ListN.{length, get_or, drop, length-append, length-map}
 use Rattle.rules.specs.Network.{Arc, ◌⟶◌}
 use Rattle.memory.specs.Regions.{cell}
-use Rattle.memory.specs.Putting.{ArcsFit, ArcsPut}
-use Rattle.memory.proofs.Puts.{put_then, put_long}
+use Rattle.arcsink.specs.declared.ArcSink.{ArcSink}
+use Rattle.arcsink.specs.Sink.{SinkFit, SinkPut}
+use Rattle.arcsink.proofs.Sinks.{sink_then, sink_long}
 use Rattle.bits.proofs.Tables.{row_room}
 use Rattle.uniting.specs.declared.Block.{Block}
 use Rattle.taking.specs.Taking.{taken, taken_arcs}
@@ -30,17 +31,17 @@ abbrev arcs_to : List ℕ → Block → ℕ → List ℕ → List Arc
 arcs_to w b j ks = map (λ k. cell w b.tops j ⟶ cell w b.tops k) ks
 
 -- all heads before `at` are taken
-pub record Noting (w u : List ℕ) (b : Block) (j : ℕ) (ts hs ts' hs' : List ℕ) (p at to next : ℕ) : Type 0 where
+pub record Noting (w u : List ℕ) (b : Block) (j : ℕ) (s s' : ArcSink) (at to : ℕ) : Type 0 where
   pub rest : HeadsLeft w b j at to
   pub long : length u ≡ length w
   pub behind : drop (b.places * 8) u ≡ drop (b.places * 8) w
   pub out : List ℕ
   pub memory : noted u b.first j (left_of w at to) ≡ noted w b.first j (row_heads w b j)
   pub still : out ++ kept_heads u b.first j (left_of w at to) ≡ kept_heads w b.first j (row_heads w b j)
-  pub put : ArcsPut ts hs ts' hs' p (arcs_to w b j out) next
+  pub put : SinkPut s s' (arcs_to w b j out)
 
-module _ {w u : List ℕ} {b : Block} {j : ℕ} {ts hs ts' hs' : List ℕ} {p at to next : ℕ} (L : BlockLaid w b)
-    (l : j < b.places) (T : Noting w u b j ts hs ts' hs' p at to next) (h : at < to) (k : ℕ)
+module _ {w u : List ℕ} {b : Block} {j : ℕ} {s s' : ArcSink} {at to : ℕ} (L : BlockLaid w b)
+    (l : j < b.places) (T : Noting w u b j s s' at to) (h : at < to) (k : ℕ)
     (e : k ≡ get_or u at 0) where
   -- names and rows still stand behind the table
   pub note_laid : BlockLaid u b
@@ -74,8 +75,8 @@ module _ {w u : List ℕ} {b : Block} {j : ℕ} {ts hs ts' hs' : List ℕ} {p at
       ∙ taken_map u b.first j k (cell w b.tops)
 
   -- there is room for it
-  pub note_room : ArcsFit ts hs p (noted_arcs (cell w b.tops) w b.first j (row_heads w b j)) →
-      ArcsFit ts' hs' next (taken_arcs (cell u b.tops) u b.first j k)
+  pub note_room : SinkFit s (noted_arcs (cell w b.tops) w b.first j (row_heads w b j)) →
+      SinkFit s' (taken_arcs (cell u b.tops) u b.first j k)
   unfolding noted_arcs
   note_room R =
       let f : ℕ → Arc = λ x. cell w b.tops j ⟶ cell w b.tops x in
@@ -86,17 +87,17 @@ module _ {w u : List ℕ} {b : Block} {j : ℕ} {ts hs ts' hs' : List ℕ} {p at
       let new = length-map (taken_heads u b.first j k) f in
       let old = length-map T.out f in
       let whole = length-map (kept_heads w b.first j (row_heads w b j)) f in
-      let long = put_long T.put in
+      let long = sink_long T.put in
       record {
-        tails = omega (arith, all, one, two, arcs, new, old, whole, long.0, R.tails, T.put.behind);
-        heads = omega (arith, all, one, two, arcs, new, old, whole, long.1, R.heads, T.put.behind);
+        tails = omega (arith, all, one, two, arcs, new, old, whole, long.0, R.tails, T.put.arcs.behind);
+        heads = omega (arith, all, one, two, arcs, new, old, whole, long.1, R.heads, T.put.arcs.behind);
       }
 
   -- one head more
-  pub note_turn : (v ts'' hs'' : List ℕ) (r : ℕ) → HeadTaken u v b j k ts' hs' ts'' hs'' next r →
-      Noting w v b j ts hs ts'' hs'' p (at + 1) to r
+  pub note_turn : {v : List ℕ} {s'' : ArcSink} → HeadTaken u v b j k s' s'' →
+      Noting w v b j s s'' (at + 1) to
   unfolding noted
-  note_turn v ts'' hs'' r K =
+  note_turn K =
       record {
         rest = left_more T.rest h;
         long = ap length K.memory ∙ taken_long u b.first j k ∙ T.long;
@@ -113,14 +114,14 @@ module _ {w u : List ℕ} {b : Block} {j : ℕ} {ts hs ts' hs' : List ℕ} {p at
             ap (λ (x : List ℕ). more ++ kept_heads x b.first j (left_of w (at + 1) to)) K.memory ∙ grown;
         put =
             rw (map-append (λ x. cell w b.tops j ⟶ cell w b.tops x) T.out (taken_heads u b.first j k))
-            (put_then T.put (rw arc_now at K.put));
+            (sink_then T.put (rw arc_now at K.put));
       }
 
 -- all of them
-pub note_end : {w u : List ℕ} {b : Block} {j : ℕ} {ts hs ts' hs' : List ℕ} {p at to next : ℕ} →
-    Noting w u b j ts hs ts' hs' p at to next → to ≤ at → RowNoted w u b j ts hs ts' hs' p next
+pub note_end : {w u : List ℕ} {b : Block} {j : ℕ} {s s' : ArcSink} {at to : ℕ} →
+    Noting w u b j s s' at to → to ≤ at → RowNoted w u b j s s'
 unfolding noted kept_heads noted_arcs
-note_end {w} {u} {b} {j} {ts} {hs} {ts'} {hs'} {p} {at} {to} {next} T h =
+note_end {w} {u} {b} {j} {at = at} {to} T h =
     let none = left_none w at to h in
     let all : T.out ≡ kept_heads w b.first j (row_heads w b j) =
     sym (append-nil T.out) ∙ ap (λ (x : List ℕ). T.out ++ kept_heads u b.first j x) (sym none) ∙ T.still in

@@ -7,7 +7,8 @@ use mathlib.Core.List.{List}
 use Prim.Native.Nat.{ℕ, ◌*◌, ◌<◌}
 use lib.ListN.{length, drop}
 use Rattle.memory.specs.Regions.{cell}
-use Rattle.memory.specs.Putting.{ArcsFit}
+use Rattle.arcsink.specs.declared.ArcSink.{ArcSink}
+use Rattle.arcsink.specs.Sink.{SinkFit}
 use Rattle.bits.proofs.Tables.{row_room}
 use Rattle.uniting.specs.declared.Block.{Block}
 use Rattle.uniting.specs.Uniting.{united}
@@ -42,16 +43,14 @@ module _ {w : List ℕ} {b : Block} (L : BlockLaid w b) (j : ℕ) (h : j < b.pla
       ∙ ap₂ (λ (x ks : List ℕ). noted_arcs (cell w b.tops) x b.first j ks) q row_now
 
   -- they have room
-  pub turn_room : (ts hs : List ℕ) (p : ℕ) →
-      ArcsFit ts hs p (place_arcs (cell w b.tops) w b.first j (row_heads w b j)) →
-      ArcsFit ts hs p (noted_arcs (cell v b.tops) v b.first j (row_heads v b j))
-  turn_room ts hs p R = rw arcs_now R
+  pub turn_room : {s : ArcSink} → SinkFit s (place_arcs (cell w b.tops) w b.first j (row_heads w b j)) →
+      SinkFit s (noted_arcs (cell v b.tops) v b.first j (row_heads v b j))
+  turn_room R = rw arcs_now R
 
   -- what both leave
-  pub turn_end : (u ts hs ts' hs' : List ℕ) (p r : ℕ) → RowNoted v u b j ts hs ts' hs' p r →
-      PlaceTurned w u b j ts hs ts' hs' p r
+  pub turn_end : {u : List ℕ} {s s' : ArcSink} → RowNoted v u b j s s' → PlaceTurned w u b j s s'
   unfolding place_turned
-  turn_end u ts hs ts' hs' p r D =
+  turn_end D =
       record {
         memory = D.memory ∙ ap₂ (λ (x ks : List ℕ). noted x b.first j ks) q row_now;
         put = rw arcs_now at D.put;

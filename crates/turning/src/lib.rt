@@ -10,57 +10,39 @@
 
 ghost use Rattle.std.specs.Prelude.{◌<◌};
 ghost use Rattle.memory.specs.Regions.{cell};
-ghost use Rattle.memory.specs.Putting.{ArcsFit};
+ghost use Rattle.arcsink.specs.Sink.{SinkFit};
 ghost use Rattle.uniting.specs.Uniting.{row_heads, BlockLaid};
 ghost use Rattle.turning.specs.Steps.{noted_arcs, place_arcs};
 ghost use Rattle.turning.specs.Contract.{RowNoted, PlaceTurned};
 
+use arcsink::ArcSink;
 use taking::take;
 use uniting::{Block, heads_at, unite};
 
-// R of component j, over its U: takes each of its heads. Answers the next free place behind `put`.
-fn note(
-    work: &mut [u16],
-    b: Block,
-    j: usize,
-    tails: &mut [u16],
-    heads: &mut [u16],
-    put: usize,
-) -> usize
+// R of component j, over its U: takes each of its heads.
+fn note(work: &mut [u16], b: Block, j: usize, sink: &mut ArcSink<'_>)
     requires block_laid { BlockLaid work.old b }
     requires j_lt_places { j < b.places }
-    requires arcs_fit { ArcsFit tails.old heads.old put
+    requires arcs_fit { SinkFit sink.old
         (noted_arcs (cell work.old b.tops) work.old b.first j (row_heads work.old b j)) }
-    ensures { RowNoted work.old work.new b j tails.old
-        heads.old tails.new heads.new put result }
+    ensures { RowNoted work.old work.new b j sink.old sink.new }
 {
     let from = heads_at(work, b, j);
     let to = heads_at(work, b, j + 1);
-    let mut next = put;
     for at in from..to {
         let k = usize::from(work[at]);
-        next = take(work, b, j, k, tails, heads, next);
+        take(work, b, j, k, sink);
     }
-    next
 }
 
-// The turn of component j, once all later components have had theirs: U, then R, and the arcs that stay. Answers the
-// next free place behind `put`.
-pub fn turn(
-    work: &mut [u16],
-    b: Block,
-    j: usize,
-    tails: &mut [u16],
-    heads: &mut [u16],
-    put: usize,
-) -> usize
+// The turn of component j, once all later components have had theirs: U, then R, and the arcs that stay.
+pub fn turn(work: &mut [u16], b: Block, j: usize, sink: &mut ArcSink<'_>)
     requires block_laid { BlockLaid work.old b }
     requires j_lt_places { j < b.places }
-    requires arcs_fit { ArcsFit tails.old heads.old put
+    requires arcs_fit { SinkFit sink.old
         (place_arcs (cell work.old b.tops) work.old b.first j (row_heads work.old b j)) }
-    ensures { PlaceTurned work.old work.new b j tails.old
-        heads.old tails.new heads.new put result }
+    ensures { PlaceTurned work.old work.new b j sink.old sink.new }
 {
     unite(work, b, j);
-    note(work, b, j, tails, heads, put)
+    note(work, b, j, sink);
 }

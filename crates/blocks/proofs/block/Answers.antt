@@ -4,19 +4,17 @@ use Rattle.blocks.proofs.block.Goals as goal
 
 pub returns : goal.returns
 returns c =
-    let a = c.args in
     block_done c.requires.block_laid c.min-end.result c.min-end.ensures c.clear.new.work c.clear.ensures
-    c.sweep.new.work a.tails.now a.heads.now c.sweep.new.tails
-    c.sweep.new.heads a.put c.sweep.result c.sweep.ensures
+    c.sweep.ensures
 
 pub sweep-requires : goal.sweep-requires
 sweep-requires c =
-    let a = c.args in record {
+    record {
       block_laid = block_laid c.requires.block_laid c.min-end.result c.min-end.ensures c.clear.new.work
           c.clear.ensures;
       end_le_places = block_low c.requires.block_laid c.min-end.result c.min-end.ensures c.clear.new.work
           c.clear.ensures;
       arcs_fit = block_room c.requires.block_laid c.min-end.result c.min-end.ensures c.clear.new.work
           c.clear.ensures
-          a.tails.now a.heads.now a.put c.requires.arcs_fit;
+          c.requires.arcs_fit;
     }

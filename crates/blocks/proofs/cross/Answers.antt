@@ -5,8 +5,8 @@ use Rattle.blocks.proofs.cross.Goals as goal
 
 pub loop-first-preserved : goal.loop-first-preserved
 loop-first-preserved c =
-    blocking_turn c.requires.block_laid c.loop-first.invariant c.loop-first-test.true c.block-next.new.work
-    c.block-next.new.tails c.block-next.new.heads c.block-next.result c.block-next.ensures
+    blocking_turn c.requires.block_laid c.loop-first.invariant c.loop-first-test.true
+    c.block.ensures
 
 pub returns : goal.returns
 returns c = blocking_end c.loop-first.invariant (omega arith)
@@ -15,17 +15,17 @@ returns c = blocking_end c.loop-first.invariant (omega arith)
 pub returns-2 : goal.returns-2
 returns-2 c =
     blocking_end
-    (blocking_turn c.requires.block_laid c.loop-first.invariant c.loop-first-test.true c.block-next.new.work
-    c.block-next.new.tails c.block-next.new.heads c.block-next.result c.block-next.ensures)
+    (blocking_turn c.requires.block_laid c.loop-first.invariant c.loop-first-test.true
+    c.block.ensures)
     (omega arith)
 
 pub loop-first-init : goal.loop-first-init
 loop-first-init c =
     let a = c.args in
-    blocking_start a.work.now a.at a.places a.tails.now a.heads.now a.put
+    blocking_start a.work.now a.at a.places a.sink.now
 
-pub block-next-requires : goal.block-next-requires
-block-next-requires c =
+pub block-requires : goal.block-requires
+block-requires c =
     record {
       block_laid = blocking_laid c.requires.block_laid c.loop-first.invariant c.loop-first-test.true;
       first_le_1024 = blocking_first c.requires.block_laid c.loop-first.invariant c.loop-first-test.true;

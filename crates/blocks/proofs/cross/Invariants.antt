@@ -6,7 +6,7 @@ use Rattle.blocks.proofs.cross.Given as goal
 
 abbrev pub invariant-loop-first : goal.invariant-loop-first
 invariant-loop-first l =
-    Blocking l.initial.work l.work l.at l.places l.initial.tails l.initial.heads l.tails l.heads l.put l.first l.next
+    Blocking l.initial.work l.work l.at l.places l.initial.sink l.sink l.first
 
 abbrev pub decreases-loop-first : goal.decreases-loop-first
 decreases-loop-first l = l.places - l.first

@@ -5,16 +5,15 @@ use Rattle.blocks.proofs.sweep.Goals as goal
 pub loop-j-preserved : goal.loop-j-preserved
 loop-j-preserved c =
     places_turn c.requires.block_laid c.requires.end_le_places c.loop-j.invariant
-    (omega arith) c.turn-next.new.work
-    c.turn-next.new.tails c.turn-next.new.heads c.turn-next.result c.turn-next.ensures
+    (omega arith) c.turn.ensures
 
 pub loop-j-init : goal.loop-j-init
 loop-j-init c =
     let a = c.args in
-    places_start a.work.now a.b a.end a.tails.now a.heads.now a.put
+    places_start a.work.now a.b a.end a.sink.now
 
-pub turn-next-requires : goal.turn-next-requires
-turn-next-requires c =
+pub turn-requires : goal.turn-requires
+turn-requires c =
     record {
       block_laid = places_laid c.requires.block_laid c.requires.end_le_places c.loop-j.invariant (omega arith);
       j_lt_places = places_low c.requires.block_laid c.requires.end_le_places c.loop-j.invariant (omega arith);

@@ -4,4 +4,4 @@ use Rattle.blocks.proofs.sweep.Given as goal
 
 abbrev pub invariant-loop-j : goal.invariant-loop-j
 invariant-loop-j l =
-    TurningPlaces l.initial.work l.work l.b l.end l.initial.tails l.initial.heads l.tails l.heads l.put l.j l.next
+    TurningPlaces l.initial.work l.work l.b l.end l.initial.sink l.sink l.j

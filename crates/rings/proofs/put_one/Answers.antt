@@ -2,7 +2,6 @@
 -- the zone is noted. Assumes nothing.
 use native.Mathlib.Omega.{arith}
 use Prim.Native.Nat.{◌<◌}
-use lib.ListN.{length}
 use Rattle.rings.proofs.Passing.{put_followed, put_alone, put_fits}
 use Rattle.rings.proofs.put_one.Goals.{After-from, Else-from-z}
 use Rattle.rings.proofs.put_one.Goals as goal
@@ -11,27 +10,20 @@ use Rattle.rings.proofs.put_one.Goals as goal
 named : (c : After-from) → c.from.result < c.args.at.zones
 named c = omega (arith, c.from.ensures, c.requires.rings_lent.named c.args.z c.requires.z_lt_zones)
 
--- the arc has room
-fits : (c : Else-from-z) → let a = c.args in (a.put < length a.tails.now) × (a.put < length a.heads.now)
-fits c =
-    let a = c.args in
-    put_fits a.work.now a.at a.z a.tails.now a.heads.now a.put c.from.result c.from.ensures
-    (λ e. omega (arith, c.if-from-z.false, c.from-2.ensures, e)) c.requires.arcs_fit
-
-pub returns : goal.returns
-returns c =
-    let a = c.args in
-    put_followed a.work.now a.at a.z a.tails.now a.heads.now a.put c.from.result
-    c.from.ensures (λ e. omega (arith, c.if-from-z.false, c.from-2.ensures, e))
-
 pub returns-then-from-z : goal.returns-then-from-z
 returns-then-from-z c =
     let a = c.args in
-    put_alone a.work.now a.at a.z a.tails.now a.heads.now a.put c.from.result
-    c.from.ensures (omega (arith, c.from-2.ensures, c.if-from-z.true))
+    put_followed a.work.now a.at a.z c.from.result c.from.ensures
+    (λ e. omega (arith, c.if-from-z.true, c.from-2.ensures, e)) c.put.ensures
 
-pub bounds-tails-put : goal.bounds-tails-put
-bounds-tails-put c = (fits (goal.at.bounds-tails-put c).Else-from-z).0
+pub returns-else-from-z : goal.returns-else-from-z
+returns-else-from-z c =
+    let a = c.args in
+    put_alone a.work.now a.at a.z c.from.result c.from.ensures (omega (arith, c.from-2.ensures, c.if-from-z.false))
+    a.sink.now
 
-pub bounds-heads-put : goal.bounds-heads-put
-bounds-heads-put c = (fits (goal.at.bounds-heads-put c).Else-from-z).1
+pub put-requires : goal.put-requires
+put-requires c =
+    let a = c.args in
+    put_fits a.work.now a.at a.z c.from.result c.from.ensures
+    (λ e. omega (arith, c.if-from-z.true, c.from-2.ensures, e)) c.requires.arcs_fit

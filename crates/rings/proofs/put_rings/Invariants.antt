@@ -12,4 +12,4 @@ use Rattle.rings.proofs.put_rings.Given as goal
 abbrev pub invariant-loop-z : goal.invariant-loop-z
 invariant-loop-z l =
     (w : List ℕ) → RingsLent w l.at → l.initial.work ≡ sets w l.at.last (span 0 l.at.zones)
-    → Passing w l.work l.at l.initial.tails l.initial.heads l.tails l.heads l.put l.z l.next
+    → Passing w l.work l.at l.initial.sink l.sink l.z

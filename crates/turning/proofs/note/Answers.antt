@@ -6,14 +6,13 @@ pub loop-at-preserved : goal.loop-at-preserved
 loop-at-preserved c =
     note_turn c.requires.block_laid c.requires.j_lt_places c.loop-at.invariant
     (omega arith) c.from-k.result c.from-k.ensures
-    c.take-next.new.work c.take-next.new.tails c.take-next.new.heads c.take-next.result
-    c.take-next.ensures
+    c.take.ensures
 
 pub returns : goal.returns
 returns c = note_end c.loop-at.invariant (omega arith)
 
-pub take-next-requires : goal.take-next-requires
-take-next-requires c =
+pub take-requires : goal.take-requires
+take-requires c =
     record {
       block_laid = note_laid c.requires.block_laid c.requires.j_lt_places c.loop-at.invariant
           (omega arith) c.from-k.result c.from-k.ensures;

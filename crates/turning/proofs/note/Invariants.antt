@@ -4,4 +4,4 @@ use Rattle.turning.proofs.note.Given as goal
 
 abbrev pub invariant-loop-at : goal.invariant-loop-at
 invariant-loop-at l =
-    Noting l.initial.work l.work l.b l.j l.initial.tails l.initial.heads l.tails l.heads l.put l.at l.to l.next
+    Noting l.initial.work l.work l.b l.j l.initial.sink l.sink l.at l.to

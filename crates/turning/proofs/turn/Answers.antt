@@ -5,9 +5,8 @@ use Rattle.turning.proofs.turn.Goals as goal
 pub returns : goal.returns
 returns c =
     let a = c.args in
-    turn_end c.requires.block_laid a.j c.requires.j_lt_places c.unite.new.work c.unite.ensures c.note.new.work
-    a.tails.now a.heads.now c.note.new.tails c.note.new.heads a.put
-    c.note.result c.note.ensures
+    turn_end c.requires.block_laid a.j c.requires.j_lt_places c.unite.new.work c.unite.ensures
+    c.note.ensures
 
 pub note-requires : goal.note-requires
 note-requires c =
@@ -15,6 +14,5 @@ note-requires c =
       block_laid = turn_laid c.requires.block_laid a.j c.requires.j_lt_places c.unite.new.work c.unite.ensures;
       j_lt_places = c.requires.j_lt_places;
       arcs_fit = turn_room c.requires.block_laid a.j c.requires.j_lt_places c.unite.new.work c.unite.ensures
-          a.tails.now
-          a.heads.now a.put c.requires.arcs_fit;
+          c.requires.arcs_fit;
     }

@@ -1,0 +1,2 @@
+-- What putting arcs into a sink asks and leaves.
+pub mod Sink
