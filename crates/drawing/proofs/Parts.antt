@@ -46,7 +46,8 @@ named_kept w w' n ts hs k long same N =
     }
 
 module _ (w : List ℕ) (n : ℕ) (ts hs : List ℕ) (k : ℕ) (N : Named w n ts hs k) (s : ArcSink)
-    (empty : s.len ≡ 0) (tails_room : length ts ≤ length s.tails.now) (heads_room : length ts ≤ length s.heads.now) where
+    (empty : s.len ≡ 0) (tails_room : length ts ≤ length s.tails.now)
+    (heads_room : length ts ≤ length s.heads.now) where
   -- the network has as many arcs as tails
   many : length (handed n ts hs).arcs ≡ length ts
   unfolding handed
