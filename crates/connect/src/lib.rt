@@ -5,6 +5,7 @@
 ghost use Rattle.rules.specs.Network.{Network};
 ghost use Rattle.connect.specs.Connect.{Connectable, Connected};
 
+use kinds::Counts;
 use links::put_links;
 use pairing::pair;
 use sides::counts_of;
@@ -17,14 +18,15 @@ pub struct Connection {
     pub need: usize,
 }
 
-// Pairs the s sources of a side with its t sinks, along its rows, and puts the links; q components are alone.
-pub fn connect(work: &mut [u16], side: Side, s: usize, t: usize, q: usize) -> Connection
-    requires { (N : Network) × Connectable work.old side s t q N }
-    ensures { (N : Network) → Connectable work.old side s t q N
+// Pairs the sources of a side with its sinks, along its rows, and puts the links. There are so many of each kind on that
+// side.
+pub fn connect(work: &mut [u16], side: Side, k: Counts) -> Connection
+    requires { (N : Network) × Connectable work.old side k.sources k.sinks k.alone N }
+    ensures { (N : Network) → Connectable work.old side k.sources k.sinks k.alone N
         → Connected work.old work.new side N result }
 {
-    let pairs = pair(work, side, s, t);
-    let n = counts_of(s, t, q, pairs);
+    let pairs = pair(work, side, k.sources, k.sinks);
+    let n = counts_of(k, pairs);
     let need = put_links(work, n, side);
     Connection { pairs, need }
 }

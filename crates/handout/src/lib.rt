@@ -7,6 +7,7 @@ use memory::copy_out;
 use workmap::LinksAt;
 
 // Copies the starts, the ends and the whys of the first n links to the fronts of three lists.
+// Kept (6): the C interface lends PLAN three lists, so they are three parameters down to here.
 pub fn hand_out(
     work: &[u16],
     at: LinksAt,

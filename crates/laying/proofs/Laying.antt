@@ -1,5 +1,4 @@
 -- Laying a plan out: what stands in the memory is the plan, whether the network is strong or not.
---   sums_small      the numbers of the kinds are small
 --   laid_by         a memory in which the plan's links stand
 --   laid_strong     a strong network has no link
 --   rule_able       the rule may run on the side that was picked;   rule_laid   what it then leaves is the plan
@@ -20,7 +19,6 @@ use Rattle.theory.proofs.Planning.PlanStrong.{plan_of_strong}
 use Rattle.theory.proofs.Planning.PlanCount.{plan_length}
 use Rattle.workmap.specs.declared.Map.{Map}
 use Rattle.workmap.specs.declared.Side.{Side}
-use Rattle.workmap.specs.Map.{map_of}
 use Rattle.workmap.proofs.Places.{placed}
 use Rattle.memory.proofs.Places.{drop_deeper}
 use Rattle.withdrawn.specs.Withdrawn.{ReadyWith}
@@ -29,7 +27,7 @@ use Rattle.sides.specs.Standing.{Columns}
 use Rattle.sides.specs.Sides.{RuleSide}
 use Rattle.connect.specs.declared.Connection.{Connection}
 use Rattle.connect.specs.Connect.{Connectable, Connected}
-use Rattle.theory.proofs.Planning.Few.{kinds_few, need_few, zones_few, sum_strong, sum_weak}
+use Rattle.theory.proofs.Planning.Few.{need_few, zones_few, sum_strong, sum_weak}
 use Rattle.survey.specs.Survey.{Surveyed}
 use Rattle.laying.specs.Layout.{counts_with, LaidOut}
 use Rattle.laying.proofs.Upright.{upright_weak, upright_sources, upright_sinks, upright_alone}
@@ -68,14 +66,6 @@ module _
           zones_few proper m.rows.zones S.both_ways.given.numbered,
           (placed A.ready.map).rows_zones,
         )
-
-    -- the map is made of its own counts
-    pub own_map : m ≡ map_of m.zones m.arcs
-    own_map = A.ready.map ∙ ap (λ (k : ℕ). map_of m.zones k) (sym (placed A.ready.map).arcs)
-
-    -- the numbers of the kinds are small
-    pub sums_small : k.sources + k.sinks + k.alone ≤ m.zones
-    sums_small = omega (arith, kinds_few N, zones_all, S.sources_are, S.sinks_are, S.alone_are)
 
     -- a memory in which the plan's links stand
     laid_by : (w₂ : List ℕ) (c : Connection) → c.pairs ≡ plan_pairs N → c.need ≡ length (plan N) →

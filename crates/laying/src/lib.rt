@@ -35,14 +35,16 @@ pub fn lay(m: Map, net: NetworkLists<'_>, work: &mut [u16]) -> PlanCounts
         (handed_with m.zones net.entry.tails.now net.entry.heads.now net.entry.gone.now) result }
 {
     let k = survey(m, net, work);
-    let q = k.alone;
-    if k.sources + k.sinks + q == 1 {
+    if k.sources + k.sinks + k.alone == 1 {
         let none = Connection { pairs: 0, need: 0 };
         return counts_with(k, none);
     }
-    let side = side_of(m, k.sources, k.sinks);
-    let s = k.sources.min(k.sinks);
-    let t = k.sources.max(k.sinks);
-    let made = connect(work, side, s, t, q);
+    let side = side_of(m, k);
+    let on_side = Counts {
+        sources: k.sources.min(k.sinks),
+        sinks: k.sources.max(k.sinks),
+        ..k
+    };
+    let made = connect(work, side, on_side);
     counts_with(k, made)
 }

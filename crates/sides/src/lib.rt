@@ -6,14 +6,15 @@ ghost use Rattle.std.specs.Prelude.{◌≡◌, ◌≤◌};
 ghost use Rattle.workmap.specs.Map.{map_of};
 ghost use Rattle.sides.specs.Sides.{RuleSide, Tallied};
 
+use kinds::Counts as KindCounts;
 use stations::Counts;
 use workmap::{LinksAt, ListsAt, Map, Side};
 
-// The side on which the rule runs for s sources and t sinks: as given where s <= t. Elsewhere turned round: along the
-// turned rows, with sources and sinks exchanged, and the links' starts and ends.
-pub fn side_of(m: Map, s: usize, t: usize) -> Side
+// The side on which the rule runs: as given where there are no more sources than sinks. Elsewhere turned round: along
+// the turned rows, with sources and sinks exchanged, and the links' starts and ends.
+pub fn side_of(m: Map, k: KindCounts) -> Side
     requires { m ≡ map_of m.zones m.arcs }
-    ensures { RuleSide m s t result }
+    ensures { RuleSide m k.sources k.sinks result }
 {
     let given = Side {
         rows: m.rows,
@@ -22,7 +23,7 @@ pub fn side_of(m: Map, s: usize, t: usize) -> Side
         pairs: m.pairs,
         links: m.links,
     };
-    if s <= t {
+    if k.sources <= k.sinks {
         return given;
     }
     Side {
@@ -41,15 +42,15 @@ pub fn side_of(m: Map, s: usize, t: usize) -> Side
     }
 }
 
-// How many of each the links are made of, once p pairs are made of s sources and t sinks, with q components alone.
-pub fn counts_of(s: usize, t: usize, q: usize, p: usize) -> Counts
-    requires { (p ≤ s) × (p ≤ t) }
-    ensures { Tallied s t q p result }
+// How many of each the links are made of, once p pairs are made of the sources and the sinks.
+pub fn counts_of(k: KindCounts, p: usize) -> Counts
+    requires { (p ≤ k.sources) × (p ≤ k.sinks) }
+    ensures { Tallied k.sources k.sinks k.alone p result }
 {
     Counts {
         pairs: p,
-        sources: s - p,
-        sinks: t - p,
-        alone: q,
+        sources: k.sources - p,
+        sinks: k.sinks - p,
+        alone: k.alone,
     }
 }

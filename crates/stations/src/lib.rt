@@ -7,6 +7,7 @@ use memory::copy;
 use workmap::Side;
 
 // How many elements each list has: the pairs' sources and sinks, the lone sources, the lone sinks, the zones alone.
+// Kept (2): no plainer as the counts of the kinds and one number more, since those count all sources and all sinks.
 #[derive(Clone, Copy)]
 pub struct Counts {
     pub pairs: usize,

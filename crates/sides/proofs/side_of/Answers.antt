@@ -2,8 +2,8 @@
 use Rattle.sides.proofs.Runs.{given_runs, turned_runs}
 use Rattle.sides.proofs.side_of.Goals as goal
 
-pub returns-then-s-t : goal.returns-then-s-t
-returns-then-s-t c = given_runs c.requires c.if-s-t.true
+pub returns-then-k : goal.returns-then-k
+returns-then-k c = given_runs c.requires c.if-k.true
 
 pub returns : goal.returns
-returns c = turned_runs c.requires c.if-s-t.false
+returns c = turned_runs c.requires c.if-k.false
