@@ -13,6 +13,7 @@ use workmap::{OrderAt, RowsAt};
 
 // The first head with no mark of the zone at place `top` of the order, from its next place on, which moves on behind
 // this head; None where all these heads have marks.
+// Kept (5): every step stores into the slice that Ready speaks of, so a struct of both would be opened for each.
 // Kept (5): `rows` and `at` stay two parameters, as the second pass takes the order with the turned rows.
 fn advance(work: &mut [u16], rows: RowsAt, at: OrderAt, top: usize) -> Option<u16>
     requires ready { Ready work.old rows at }

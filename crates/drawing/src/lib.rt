@@ -16,6 +16,7 @@ use spots::note_places;
 use workmap::Map;
 
 // Lays out the network of the components: the places of the names, and the rows of the arcs between components.
+// Kept (5): a ghost field of Map that says it is the map of its counts would stand in the definition of that very map.
 fn lay_table(m: Map, places: usize, tails: &[u16], heads: &[u16], work: &mut [u16])
     requires named { Named work.old m.zones tails.now heads.now places }
     requires m_is_map { m ≡ map_of m.zones m.arcs }

@@ -15,6 +15,7 @@ use filenumbers::Cursor;
 use rules::Trouble;
 
 // An arc: where it ends, or its refusal. Looked at closer only where a quick look does not find it good.
+// Kept (5): the bound is of the zone count alone, which this and the quick look take out of a FileArcs.
 fn one_arc(s: &[u8], c: Cursor, zones: usize) -> Result<Cursor, Trouble>
     requires { zones ≤ 1024 }
     ensures { Scanned result (arc_at s.now zones c.at) }

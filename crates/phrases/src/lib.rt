@@ -32,3 +32,28 @@ pub fn put_refusal(page: &mut Page<'_>, t: Trouble)
     page.put_two(b"refused ", usize::from(t.kind), b" at ", t.place);
     page.put_bytes(b"\n")
 }
+
+#[cfg(test)]
+mod tests {
+    use super::*;
+    use rules::TroubleKind;
+    use std::test::Fail;
+
+    // A refusal says of itself what linkplan's line says, but for the line's end.
+    #[test]
+    fn refusal_told(rt: HostRuntime) -> Result<(), Fail> {
+        let t = Trouble {
+            kind: TroubleKind::Head,
+            place: 3,
+        };
+        let said = format!(in rt.alloc(); "{t}\n")?;
+        let mut line = [0u8; 60];
+        let mut page = Page::new(&mut line);
+        put_refusal(&mut page, t);
+        let length = page.written();
+        assert_eq!(rt; said.as_str(), "refused 11 at 3\n");
+        assert_eq!(rt; said.len(), length);
+        assert_eq!(rt; said.as_bytes(), &line[..said.len().min(60)]);
+        Ok(())
+    }
+}

@@ -15,6 +15,7 @@ use arcsink::ArcSink;
 use workmap::RingsAt;
 
 // Notes each name as what comes first: the highest zone of its component is followed by it.
+// Kept (5): every step stores into the slice that RingsLent speaks of, so a struct of both would be opened for each.
 fn start_rings(work: &mut [u16], at: RingsAt)
     requires { RingsLent work.old at }
     ensures { work.new ≡ sets work.old at.last (span 0 at.zones) }
@@ -26,6 +27,7 @@ fn start_rings(work: &mut [u16], at: RingsAt)
 
 // Puts the ring's arc out of zone z, to the lowest zone of its component so far, and notes z as the lowest. A zone that
 // would be followed by itself is alone.
+// Kept (5): that z is an index of the zones is a fact about two parameters, and no type has both.
 fn put_one(work: &mut [u16], at: RingsAt, z: usize, sink: &mut ArcSink<'_>)
     requires rings_lent { RingsLent work.old at }
     requires z_lt_zones { z < at.zones }

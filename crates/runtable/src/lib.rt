@@ -17,6 +17,7 @@ fn number(word: &[u8]) -> u16 {
 }
 
 // Where a byte stands first from `from` on, or the text's end.
+// Kept (5): `row` takes text and place apart, and its two must-fail edits hold that, so those under it do.
 fn find(text: &[u8], from: usize, byte: u8) -> usize
     requires { from ≤ length text.now }
     ensures { (from ≤ result) × (result ≤ length text.now) }

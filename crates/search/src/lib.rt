@@ -13,6 +13,7 @@ ghost use Rattle.search.specs.Marking.{Spreadable, Spread, Searchable, Searched}
 use workmap::{RowsAt, SearchAt};
 
 // Marks the unmarked zones of the row of z and puts them on the queue. Answers the queue's new end.
+// Kept (5): which rows are searched, and where marks and queue stand, are chosen apart, as by `roots` and `strength`.
 fn visit(work: &mut [u16], rows: RowsAt, at: SearchAt, x: u16, z: usize, tail: usize) -> usize
     requires in_rows { rows.starts + z + 1 < length work.old }
     requires visitable { let first = rows.rows + get_or work.old (rows.starts + z) 0 in

@@ -13,6 +13,7 @@ use bits::join;
 // A block: how many components there are, the first of the block, and where the names of all components, the starts of
 // their rows of heads, and these rows stand.
 // Kept (5): every step stores into the slice that BlockLaid speaks of, so a struct of both would be opened for each.
+// Kept (5): that j is an index of its places is a fact about two parameters, and no type has both.
 #[derive(Clone, Copy)]
 pub struct Block {
     pub places: usize,

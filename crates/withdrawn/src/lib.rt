@@ -22,6 +22,7 @@ pub fn lowest(gone: &[u16]) -> usize
 }
 
 // Puts a stamp at the place of each withdrawn number, where n places from `at` on stand for the numbers below n.
+// Kept (5): that n places from `at` on lie in the slice is what a range of it asks for, and no fact about one value.
 pub fn stamp(work: &mut [u16], at: usize, n: usize, gone: &[u16], mark: u16)
     requires within { at + n ≤ length work.old }
     requires gone_below { (z : ℕ) → In z gone.now → z < n }
