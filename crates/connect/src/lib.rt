@@ -18,8 +18,8 @@ pub struct Connection {
     pub need: usize,
 }
 
-// Pairs the sources of a side with its sinks, along its rows, and puts the links. There are so many of each kind on that
-// side.
+// Pairs the sources of a side with its sinks, along its rows, and puts the links. There are so many of each kind on
+// that side.
 pub fn connect(work: &mut [u16], side: Side, k: Counts) -> Connection
     requires { (N : Network) × Connectable work.old side k.sources k.sinks k.alone N }
     ensures { (N : Network) → Connectable work.old side k.sources k.sinks k.alone N

@@ -53,7 +53,7 @@ pub fn network(net: NetworkLists<'_>) -> Result<ZoneSet, Trouble>
 }
 
 // The test of the work memory's length, of a network whose counts passed their tests.
-// Kept (5): whoever asks has the two bounds from the tests just made, and a type of both would be made by the same proof.
+// Kept (5): whoever asks has the two bounds from the tests just made, and a type of both would take the same proof.
 pub fn work(zones: usize, arcs: usize, lent: usize) -> Result<(), Trouble>
     requires zones_bound { zones ≤ 1024 }
     requires arcs_bound { arcs ≤ 4096 }

@@ -81,5 +81,6 @@ module _ {m : Map} (e : m ≡ map_of m.zones m.arcs) {s t : ℕ} where
         links = λ w N weak e f C.
             let u = is_turned N h e f in
             let D = rw (upright_other N u) at C in
-            rw (plan_of_turned N weak u) (columns_turned (upright_plan (turned N)) D.ends_held D.starts_held D.whys_held);
+            let back = columns_turned (upright_plan (turned N)) D.ends_held D.starts_held D.whys_held in
+            rw (plan_of_turned N weak u) back;
       }

@@ -28,5 +28,6 @@ joined-requires c =
 pub returns : goal.returns
 returns c =
     let n = c.args.net in
-    strong_done n.zones n.tails.now n.heads.now n.gone.now c.args.work.now _ c.joined.result (sym c.in_ok-strong.ensures)
+    let passed = sym c.in_ok-strong.ensures in
+    strong_done n.zones n.tails.now n.heads.now n.gone.now c.args.work.now _ c.joined.result passed
     (rw c.map_of-m.ensures at c.joined.ensures)

@@ -9,7 +9,8 @@ pub returns-in_err-c : goal.returns-in_err-c
 returns-in_err-c c =
     let a = c.args in
     let l = c.loop in
-    let bad = turn_bad a.s.now a.self.zones a.self.arcs l.counter l.c.at l.invariant.0 _ (omega arith) c.in_err-c.ensures in
+    let refused = c.in_err-c.ensures in
+    let bad = turn_bad a.s.now a.self.zones a.self.arcs l.counter l.c.at l.invariant.0 _ (omega arith) refused in
     let whole = l.invariant.1 ∙ bad in
     grind (arith, common_steps)
 
@@ -26,4 +27,5 @@ pub returns : goal.returns
 returns c =
     let a = c.args in
     let l = c.loop in
-    (l.invariant.0, l.invariant.1 ∙ turns_over a.s.now a.self.zones a.self.arcs l.counter l.c.at l.invariant.0 (omega arith))
+    let over = turns_over a.s.now a.self.zones a.self.arcs l.counter l.c.at l.invariant.0 (omega arith) in
+    (l.invariant.0, l.invariant.1 ∙ over)
