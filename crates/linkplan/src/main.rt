@@ -2,6 +2,7 @@
 // `respond` goes from the bytes that were read to the bytes to write, in a lent buffer; `main` only reads and writes.
 #![tactic(auto)]
 
+ghost use Rattle.std.specs.Prelude.{◌≤◌, length};
 ghost use Rattle.std.specs.Io.KnownBytes.{Consumes};
 
 use responding::respond;
@@ -10,10 +11,11 @@ use std::io::Read;
 // Reads until the list is full or the input ends, and hands out what was read: it stands at the front of the list, in
 // its order, and nothing else of the input is gone. A read that fails is the end of the input.
 fn read_full<'a, R: Read>(reader: &mut R, into: &'a mut [u8]) -> &'a [u8]
-    ensures { Consumes (R.remaining reader.old) (R.remaining reader.new) result.now }
+    ensures within { length result.now ≤ length into.old }
+    ensures front { Consumes (R.remaining reader.old) (R.remaining reader.new) result.now }
 {
     let mut got = 0;
-    // Kept (3): the count rises by what each read gave, and no method of `Read` says how much it read before the end.
+    // Kept (3): `read_exact` loses the count where the input ends early, and `read_to_end` needs a heap.
     while got < into.len() {
         match reader.read(&mut into[got..]) {
             Ok(0) | Err(_) => break,
