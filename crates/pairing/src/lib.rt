@@ -20,7 +20,7 @@ fn settle(work: &mut [u16], at: Side, s: usize, t: usize, i: usize, p: usize) ->
     match turn(work, at.rows, at.search, source, at.lists.sinks, t - p) {
         Some(z) => {
             work[at.pairs.firsts + p] = v;
-            work[at.pairs.seconds + p] = z as u16;
+            work[at.pairs.seconds + p] = z;
             p + 1
         }
         None => {

@@ -37,14 +37,14 @@ pub fn turn(
     source: usize,
     sinks: usize,
     left: usize,
-) -> Option<usize>
+) -> Option<u16>
     requires { Turnable work.old rows at source sinks left }
     ensures { Turned work.old work.new rows at source sinks left result }
 {
     fill(work, at.marks, rows.zones, 0);
     search(work, rows, at, source);
     let j = first_marked(work, at.marks, sinks, left)?;
-    let z = usize::from(work[sinks + j]);
+    let z = work[sinks + j];
     take_out(work, sinks, left, j);
     Some(z)
 }

@@ -1,7 +1,6 @@
 -- `settle` meets its contract: the source has its turn, and is stored by what the turn answers.
 -- Assumes nothing.
 use borrow.Author.Rules.{rules}
-use native.Mathlib.Omega.{arith}
 use mathlib.Core.Path.{refl}
 use Prim.Native.Nat.{◌+◌}
 use lib.ListN.{get_or, length-set}
@@ -21,9 +20,6 @@ returns-in-None c =
     λ v C.
     course_lone v a.work.now a.at a.s a.t a.i a.p C (get_or a.work.now (a.at.lists.sources + a.i) 0) refl
     c.requires.more c.turn.new.work (rw c.from-source.ensures at c.in-None.ensures)
-
-pub overflow_cast-work : goal.overflow_cast-work
-overflow_cast-work c = omega (arith, c.in-Some.ensures.over.0, c.requires.course.able.laid.small)
 
 pub bounds-work-at-in-Some-2 : goal.bounds-work-at-in-Some-2
 bounds-work-at-in-Some-2 c = simp length-set (search rules)
