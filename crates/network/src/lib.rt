@@ -17,7 +17,7 @@ pub fn strong(net: NetworkLists<'_>, work: &mut [u16]) -> Result<bool, Trouble>
 {
     admission::strong(net, work)?;
     let m = map_of(net.zones, net.tails.len());
-    Ok(joined(m, net.tails, net.heads, net.gone, work))
+    Ok(joined(m, net, work))
 }
 
 // REACH: whether one zone reaches another.

@@ -10,6 +10,7 @@ ghost use Rattle.strength.specs.Marks.{Sweepable, Swept};
 
 use arranged::both_ways;
 use memory::clear;
+use rules::NetworkLists;
 use search::search;
 use withdrawn::{lowest, stamp};
 use workmap::{Map, RowsAt, SearchAt};
@@ -27,17 +28,17 @@ fn sweep(work: &mut [u16], rows: RowsAt, at: SearchAt, from: usize, gone: &[u16]
 
 // Whether the lowest zone that is not withdrawn comes to all others along the arcs, and against them. Only the marks
 // have to be clear beforehand, and they lie below the second queue.
-pub fn joined(m: Map, tails: &[u16], heads: &[u16], gone: &[u16], work: &mut [u16]) -> bool
-    requires { ReadyWith m tails.now heads.now gone.now work.old }
+pub fn joined(m: Map, net: NetworkLists<'_>, work: &mut [u16]) -> bool
+    requires { ReadyWith m net.tails.now net.heads.now net.gone.now work.old }
     ensures { Answered result
-        (strong (handed_with m.zones tails.now heads.now gone.now))
+        (strong (handed_with m.zones net.entry.tails.now net.entry.heads.now net.entry.gone.now))
         m.asked work.old work.new }
 {
-    let from = lowest(gone);
+    let from = lowest(net.gone);
     clear(work, m.back.queue);
-    both_ways(m, tails, heads, work);
-    let there = sweep(work, m.rows, m.search, from, gone);
-    let back = sweep(work, m.turned, m.back, from, gone);
+    both_ways(m, net.tails, net.heads, work);
+    let there = sweep(work, m.rows, m.search, from, net.gone);
+    let back = sweep(work, m.turned, m.back, from, net.gone);
     clear(work, m.asked);
     there && back
 }

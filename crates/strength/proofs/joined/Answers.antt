@@ -102,7 +102,7 @@ sweep-there-requires c =
     let clear : Clear w a.m.search.marks a.m.rows.zones = λ v h. zero_first P C B _ (omega arith) in
     record {
       able =
-          rows_searchable a.m a.tails.now a.heads.now a.work.now P.ready w
+          rows_searchable a.m a.net.tails.now a.net.heads.now a.work.now P.ready w
           S.long a.m.search (omega arith) (omega arith) _
           (omega (arith, zone P c.lowest-from.ensures, P.ready.fine.accepted.zones_least))
           clear S.rows;
@@ -120,7 +120,7 @@ sweep-back-requires c =
     let clear = clear_here P c.clear.ensures c.both_ways.ensures c.sweep-there.ensures in
     record {
       able =
-          turned_searchable a.m a.tails.now a.heads.now a.work.now P.ready c.sweep-there.new.work
+          turned_searchable a.m a.net.tails.now a.net.heads.now a.work.now P.ready c.sweep-there.new.work
           S.long a.m.back (omega arith) (omega arith) _
           (omega (arith, zone P c.lowest-from.ensures, P.ready.fine.accepted.zones_least))
           clear S.turned;
