@@ -12,6 +12,7 @@ ghost use Rattle.kinds.specs.Marks.{entered_mark, exited_mark};
 ghost use Rattle.kinds.specs.Lists.{Listable, Listing, Nameable, Withdrawable, Listed};
 
 use borders::mark;
+use rules::NetworkLists;
 use withdrawn::stamp;
 use workmap::{KindsAt, ListsAt};
 
@@ -73,22 +74,15 @@ fn list(at: KindsAt, kind: Kind, to: usize, work: &mut [u16]) -> usize
 
 // Finds which components are entered and left, lists the names of each kind, the withdrawn zones left out, and answers
 // how many there are.
-pub fn list_kinds(
-    at: KindsAt,
-    to: ListsAt,
-    tails: &[u16],
-    heads: &[u16],
-    gone: &[u16],
-    work: &mut [u16],
-) -> Counts
-    requires nameable { Nameable at to tails.now heads.now work.old }
-    requires withdrawable { Withdrawable at.zones (arcs_of tails.now heads.now) gone.now }
+pub fn list_kinds(at: KindsAt, to: ListsAt, net: NetworkLists<'_>, work: &mut [u16]) -> Counts
+    requires nameable { Nameable at to net.tails.now net.heads.now work.old }
+    requires withdrawable { Withdrawable at.zones (arcs_of net.tails.now net.heads.now) net.gone.now }
     ensures { Listed at to
-        (network_with at.zones (arcs_of tails.now heads.now) gone.now) result
+        (network_with at.zones (arcs_of net.entry.tails.now net.entry.heads.now) net.entry.gone.now) result
         work.old work.new }
 {
-    mark(at, tails, heads, work);
-    stamp(work, at.entered, at.zones, gone, 2);
+    mark(at, net.tails, net.heads, work);
+    stamp(work, at.entered, at.zones, net.gone, 2);
     let sources = list(at, Kind::Source, to.sources, work);
     let sinks = list(at, Kind::Sink, to.sinks, work);
     let alone = list(at, Kind::Alone, to.alone, work);

@@ -20,5 +20,5 @@ pub fn survey(m: Map, net: NetworkLists<'_>, work: &mut [u16]) -> Counts
 {
     ready(m, net.tails, net.heads, work);
     name_all(work, m);
-    list_kinds(m.kinds, m.lists, net.tails, net.heads, net.gone, work)
+    list_kinds(m.kinds, m.lists, net, work)
 }
