@@ -13,12 +13,10 @@ pub fn lowest(gone: &[u16]) -> usize
     requires { Ascending gone.now }
     ensures { Lowest gone.now result }
 {
-    for (i, &zone) in gone.iter().enumerate() {
-        if usize::from(zone) != i {
-            return i;
-        }
-    }
-    gone.len()
+    gone.iter()
+        .enumerate()
+        .position(|(i, &zone)| usize::from(zone) != i)
+        .unwrap_or(gone.len())
 }
 
 // Puts a stamp at the place of each withdrawn number, where n places from `at` on stand for the numbers below n.
