@@ -105,17 +105,29 @@ fn write_rows(rt: &impl Print) -> io::Result<()> {
 
 // 4,097 arcs are too many. 4,096 arcs whose every number has two groups are the longest file: one byte short, exact and
 // read back, and with a byte to spare, which is then a byte too many. A row has the zones, the length of the list that
-// is lent, how many arcs there are, and 1 where the file is read back.
+// is lent, and how many arcs there are.
 fn large_rows(rt: &impl Print) -> io::Result<()> {
     rows(
         rt,
         b"write 4097 arcs: 1024 12 4097;\
           longest file, one byte short: 1024 16387 4096;\
-          longest file: 1024 16388 4096;\
-          longest file, read back: 1024 16388 4096 1;\
-          longest file, a byte to spare: 1024 16389 4096;\
-          longest file and a byte: 1024 16389 4096 1;",
+          longest file: 1024 16388 4096;",
         |given| writes::large(rt, given),
+    )?;
+    rows(
+        rt,
+        b"longest file, read back: 1024 16388 4096;",
+        |given| writes::read_back(rt, given),
+    )?;
+    rows(
+        rt,
+        b"longest file, a byte to spare: 1024 16389 4096;",
+        |given| writes::large(rt, given),
+    )?;
+    rows(
+        rt,
+        b"longest file and a byte: 1024 16389 4096;",
+        |given| writes::read_back(rt, given),
     )
 }
 

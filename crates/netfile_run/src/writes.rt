@@ -1,6 +1,6 @@
 // The runs of `write`: small networks, and the largest files.
 use super::reads;
-use rules::NetworkLists;
+use rules::{FileCounts, NetworkLists, Trouble};
 use runtable::{at, part};
 use std::{array, io};
 
@@ -32,17 +32,8 @@ fn apart(list: &[u16], by: u16) -> usize {
         .count()
 }
 
-// Reads a file into lists of 4,096 elements, and prints how many of them differ from what was written.
-fn read_back(rt: &impl Print, file: &[u8]) -> io::Result<()> {
-    let mut tails = [7; 4096];
-    let mut heads = [7; 4096];
-    reads::show(rt, netfile::read(file, &mut tails, &mut heads))?;
-    print!(rt; " {} {}", apart(&tails, 128), apart(&heads, 129))
-}
-
-// Writes a row's part of the largest network into a row's part of a largest file, and prints the line after its label:
-// what writing answers, or what reading the file does.
-pub fn large(rt: &impl Print, given: &[u16]) -> io::Result<()> {
+// Writes a row's part of the largest network into a file.
+fn write_arcs(given: &[u16], file: &mut [u8]) -> Result<usize, Trouble> {
     let tails = ramp(128);
     let heads = ramp(129);
     let arcs = at(given, 3).min(tails.len());
@@ -52,13 +43,30 @@ pub fn large(rt: &impl Print, given: &[u16]) -> io::Result<()> {
         heads: &heads[..arcs],
         gone: &[],
     };
+    netfile::write(net, file)
+}
+
+// Writes a row's part of the largest network, and prints the line after its label: what writing answers.
+pub fn large(rt: &impl Print, given: &[u16]) -> io::Result<()> {
     let mut file = [0; 16389];
     let room = at(given, 2).min(file.len());
-    let answer = netfile::write(net, &mut file[..room]);
-    if at(given, 4) == 1 {
-        read_back(rt, &file[..room])?;
-    } else {
-        printing::answer(rt, answer)?;
-    }
+    printing::answer(rt, write_arcs(given, &mut file[..room]))?;
     println!(rt)
+}
+
+// Writes a row's part of the largest network into a file, and reads that into lists.
+fn read_arcs(given: &[u16], tails: &mut [u16], heads: &mut [u16]) -> Result<FileCounts, Trouble> {
+    let mut file = [0; 16389];
+    let room = at(given, 2).min(file.len());
+    write_arcs(given, &mut file[..room])?;
+    netfile::read(&file[..room], tails, heads)
+}
+
+// Reads what was written into lists of 4,096 elements, and prints the line after a row's label: what reading answers,
+// and how many elements of each list differ from what was written.
+pub fn read_back(rt: &impl Print, given: &[u16]) -> io::Result<()> {
+    let mut tails = [7; 4096];
+    let mut heads = [7; 4096];
+    reads::show(rt, read_arcs(given, &mut tails, &mut heads))?;
+    println!(rt; " {} {}", apart(&tails, 128), apart(&heads, 129))
 }

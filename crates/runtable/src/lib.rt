@@ -17,7 +17,8 @@ fn number(word: &[u8]) -> u16 {
 }
 
 // Where a byte stands first from `from` on, or the text's end.
-// Kept (5): `row` takes text and place apart, and its two must-fail edits hold that, so those under it do.
+// Kept (5): the edit `same_row_again`, which must stay refused, tells where the next row starts, so text and place go
+// apart.
 fn find(text: &[u8], from: usize, byte: u8) -> usize
     requires { from ≤ length text.now }
     ensures { (from ≤ result) × (result ≤ length text.now) }
@@ -64,7 +65,7 @@ pub fn rows<F: Fn(&[u16]) -> io::Result<()>>(rt: &impl Print, text: &[u8], run: 
     requires { F.IsAlwaysCallable run }
 {
     let mut from = 0;
-    // Kept (3): where a row starts is known only when the one before it is read.
+    // Kept (3): the edit `same_row_again`, which must stay refused, is of a row that says where the next one starts.
     while from < text.len() {
         let mut given = [0; LENGTH];
         from = row(rt, text, from, &mut given)?;
