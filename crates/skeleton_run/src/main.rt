@@ -82,30 +82,26 @@ fn path(rt: &impl Print, given: &[u16]) -> io::Result<()> {
 }
 
 // A ring of 1,024 zones: arc i goes from zone i, around 1,024 zones, to the next.
+// Kept (2): `network_run` has its ring in two lines too; one function for both, with its contract and edit, is more.
 fn ring(rt: &impl Print, given: &[u16]) -> io::Result<()> {
     let tails: [u16; 4096] = array::from_fn(|i| (i % 1024) as u16);
     let heads: [u16; 4096] = array::from_fn(|i| ((i + 1) % 1024) as u16);
     ask(rt, given, &tails, &heads)
 }
 
-// A row's network.
-fn run(rt: &impl Print, given: &[u16]) -> io::Result<()> {
-    // Kept (1): the table's text has these numbers, and an enum would be made of them only to be matched here.
-    match (at(given, 5), at(given, 7)) {
-        (4096, 0) => path(rt, given),
-        (4096, _) => ring(rt, given),
-        (4097, _) => ask(rt, given, &[0; 4097], &[1; 4097]),
-        (n, _) => ask(rt, given, part(given, 7, n), part(given, 14, at(given, 6))),
-    }
+// A row's small network.
+fn small(rt: &impl Print, given: &[u16]) -> io::Result<()> {
+    let tails = part(given, 7, at(given, 5));
+    let heads = part(given, 14, at(given, 6));
+    ask(rt, given, tails, heads)
 }
 
-// Document 01's case J, and the skeleton of its skeleton; small networks; each refusal, and lists of any length; and
-// the largest networks. A row has the zones; the lengths of the two lists and of the work memory that are lent; how
-// many tails and heads there are, and those, seven places for each. 4,097 arcs are all from 0 to 1; 4,096 are the path
-// (0) or the ring (2). Last come how many numbers are withdrawn, and those, three places.
-fn main(rt: HostRuntime) -> io::Result<()> {
+// Document 01's case J, and the skeleton of its skeleton; and small networks. A row has the zones; the lengths of the
+// two lists and of the work memory that are lent; how many tails and heads there are, and those, seven places for each.
+// Last come how many numbers are withdrawn, and those, three places.
+fn small_rows(rt: &impl Print) -> io::Result<()> {
     rows(
-        &rt,
+        rt,
         b"case J: 4 6 6 83 6 6 0 1 0 2 2 0 0 1 2 2 1 3 3;\
           its skeleton: 4 6 6 83 4 4 0 1 1 2 0 0 0 1 2 3 1;\
           no arcs: 4 6 6 83 0 0;\
@@ -119,24 +115,59 @@ fn main(rt: HostRuntime) -> io::Result<()> {
           a short cut before the way round: 3 6 6 83 3 3 0 0 1 0 0 0 0 2 1 2;\
           from a component to a lower one: 4 6 6 83 4 4 2 3 3 1 0 0 0 3 2 1 0;\
           past a gone zone: 4 6 6 83 4 4 0 2 0 2 0 0 0 2 0 3 3 0 0 0 1 1;\
-          one zone left: 3 6 6 83 0 0 0 0 0 0 0 0 0 0 0 0 0 0 0 0 2 0 1;\
-          list not ascending: 4 6 6 83 0 0 0 0 0 0 0 0 0 0 0 0 0 0 0 0 2 2 1;\
+          one zone left: 3 6 6 83 0 0 0 0 0 0 0 0 0 0 0 0 0 0 0 0 2 0 1;",
+        |given| small(rt, given),
+    )
+}
+
+// Each refusal, and lists of any length. A row is as before; the one with too many arcs has none of its own.
+fn refused_rows(rt: &impl Print) -> io::Result<()> {
+    rows(
+        rt,
+        b"list not ascending: 4 6 6 83 0 0 0 0 0 0 0 0 0 0 0 0 0 0 0 0 2 2 1;\
           none left: 2 6 6 83 0 0 0 0 0 0 0 0 0 0 0 0 0 0 0 0 2 0 1;\
           gone head: 4 6 6 83 2 2 0 2 0 0 0 0 0 2 1 0 0 0 0 0 1 1;\
           pair: 4 6 6 83 2 1 0 1 0 0 0 0 0 1;\
           no zones: 0 6 6 83 0 0;\
-          too many zones: 1025 6 6 83 0 0;\
-          too many arcs: 2 6 6 83 4097 4097;\
-          tail out of range: 3 6 6 83 2 2 0 3 0 0 0 0 0 1 1;\
+          too many zones: 1025 6 6 83 0 0;",
+        |given| small(rt, given),
+    )?;
+    rows(
+        rt,
+        b"too many arcs: 2 6 6 83;",
+        |given| ask(rt, given, &[0; 4097], &[1; 4097]),
+    )?;
+    rows(
+        rt,
+        b"tail out of range: 3 6 6 83 2 2 0 3 0 0 0 0 0 1 1;\
           head out of range: 3 6 6 83 2 2 0 1 0 0 0 0 0 1 3;\
           self arc: 3 6 6 83 3 3 0 1 2 0 0 0 0 1 2 2;\
           room for the work: 5 6 6 83 2 2 0 1 0 0 0 0 0 1 2;\
           room for the arcs: 4 6 6 83 7 7 0 0 0 0 0 0 0 1 1 1 1 1 1 1;\
           room for the tails: 2 1 2 38 2 2 0 0 0 0 0 0 0 1 1;\
           room for the heads: 2 2 1 38 2 2 0 0 0 0 0 0 0 1 1;\
-          room enough: 2 2 2 38 2 2 0 0 0 0 0 0 0 1 1;\
-          1,024 zones in a path, with short cuts: 1024 4096 4096 28672 4096 4096 0;\
-          1,024 zones in a ring, each arc four times: 1024 4096 4096 28672 4096 4096 2;",
-        |given| run(&rt, given),
+          room enough: 2 2 2 38 2 2 0 0 0 0 0 0 0 1 1;",
+        |given| small(rt, given),
     )
+}
+
+// The largest networks. A row has the zones, and the lengths of the two lists and of the work memory that are lent.
+fn largest_rows(rt: &impl Print) -> io::Result<()> {
+    rows(
+        rt,
+        b"1,024 zones in a path, with short cuts: 1024 4096 4096 28672;",
+        |given| path(rt, given),
+    )?;
+    rows(
+        rt,
+        b"1,024 zones in a ring, each arc four times: 1024 4096 4096 28672;",
+        |given| ring(rt, given),
+    )
+}
+
+// All tables, in order.
+fn main(rt: HostRuntime) -> io::Result<()> {
+    small_rows(&rt)?;
+    refused_rows(&rt)?;
+    largest_rows(&rt)
 }
