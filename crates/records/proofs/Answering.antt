@@ -1,15 +1,18 @@
 -- What PLAN over records gives back, from what its tests say and from what stands in the work memory.
+--   front_filled     a filled front of a list leaves what stands behind it
 --   records_ready    no trouble: the input passes the tests, and there are as many records as asked
 --   readable         then the laid out plan can be read from its columns
 --   records_done     the records are filled from there, and the work memory cleared
 -- Assumes nothing.
-use mathlib.Core.Path.{◌≡◌, ap, ◌∙◌}
-use mathlib.Core.List.{List, [], ◌∷◌}
+use mathlib.Core.Path.{◌≡◌, sym, ap, ◌∙◌}
+use mathlib.Core.List.{List, [], ◌∷◌, ◌++◌}
 use mathlib.Core.Option.{none}
 use Prim.Native.Nat.{ℕ, ◌≤◌}
 use native.Mathlib.Omega.{arith}
 use lib.Dec.{ltb}
-use lib.ListN.{length}
+use lib.ListN.{length, take, drop}
+use lib.Seq.{length-take-le}
+use Rattle.std.proofs.lemmas.List.{take-append-drop}
 use borrow.Author.Tests.{ltb-false}
 use Rattle.std.specs.Prelude.{Ok}
 use Rattle.rules.specs.declared.PlanCounts.{PlanCounts}
@@ -21,6 +24,7 @@ use Rattle.rules.specs.Calls.{network_tests, room_test, asked_work, handed_with,
 use Rattle.rules.specs.Promises.{RecordsPromise}
 use Rattle.theory.proofs.Files.Troubles.{passes, both_pass}
 use Rattle.workmap.specs.declared.Map.{Map}
+use Rattle.workmap.specs.declared.LinksAt.{LinksAt}
 use Rattle.workmap.specs.Map.{links_at, map_of}
 use Rattle.workmap.proofs.Places.{placed, links_placed}
 use Rattle.memory.proofs.Cleared.{cleared_back}
@@ -29,7 +33,15 @@ use Rattle.withdrawn.proofs.Readying.{tests_ready}
 use Rattle.laying.specs.Layout.{LaidOut}
 use Rattle.laying.proofs.Carrying.{carried}
 use Rattle.columns.specs.Columns.{Readable, filled}
-use Rattle.columns.proofs.FillLaws.{filled_is}
+use Rattle.columns.proofs.FillLaws.{filled_is, filled_front}
+
+-- the records at the front of those lent are filled, and what stands behind them is as it came
+pub front_filled : (xs : List Link) (k : ℕ) (v : List ℕ) (at : LinksAt) {ls : List Link} → k ≤ length xs →
+    ls ≡ filled v at (take k xs) (length (take k xs)) → ls ++ drop k xs ≡ filled v at xs k
+front_filled xs k v at fits f =
+    ap (λ (l : List Link). l ++ drop k xs) (rw (length-take-le k xs fits) at f)
+    ∙ sym (filled_front v at (take k xs) (drop k xs) k (omega (arith, length-take-le k xs fits)))
+    ∙ ap (λ (l : List Link). filled v at l k) (take-append-drop k xs)
 
 module _ {n : ℕ} {ts hs gone w : List ℕ} where
   -- without a trouble the input passes the tests, and there are as many records as asked

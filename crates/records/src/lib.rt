@@ -2,7 +2,7 @@
 // filled from there.
 #![tactic(auto)]
 
-ghost use Rattle.std.specs.Prelude.{◌≡◌, ◌≤◌, length};
+ghost use Rattle.std.specs.Prelude.{◌≡◌, length};
 ghost use Rattle.columns.specs.Columns.{Readable, filled};
 ghost use Rattle.rules.specs.Answers.{plan_told};
 ghost use Rattle.rules.specs.Promises.{RecordsPromise};
@@ -13,12 +13,12 @@ use memory::clear;
 use rules::{Link, NetworkLists, PlanCounts, Trouble};
 use workmap::{LinksAt, map_of};
 
-// Stores the first n links, which stand in the work memory.
-fn fill_links(links: &mut [Link], work: &[u16], at: LinksAt, n: usize)
-    requires { (n ≤ length links.old) × Readable work.now at n }
-    ensures { links.new ≡ filled work.now at links.old n }
+// Stores links that stand in the work memory, one in each record.
+fn fill_links(links: &mut [Link], work: &[u16], at: LinksAt)
+    requires { Readable work.now at (length links.old) }
+    ensures { links.new ≡ filled work.now at links.old (length links.old) }
 {
-    for (i, link) in links[..n].iter_mut().enumerate() {
+    for (i, link) in links.iter_mut().enumerate() {
         *link = link_at(work, at, i);
     }
 }
@@ -35,7 +35,7 @@ pub fn plan_records(
     admission::records(net, links.len(), work)?;
     let m = map_of(net.zones, net.tails.len());
     let counts = lay(m, net, work);
-    fill_links(links, work, m.links, counts.need);
+    fill_links(&mut links[..counts.need], work, m.links);
     clear(work, m.asked);
     Ok(counts)
 }

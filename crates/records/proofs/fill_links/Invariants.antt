@@ -5,4 +5,4 @@ use Rattle.columns.specs.Columns.{filled}
 use Rattle.records.proofs.fill_links.Given as goal
 
 abbrev pub invariant-loop-i : goal.invariant-loop-i
-invariant-loop-i l = l.link-items ≡ filled l.work l.at l.initial.link-items l.i
+invariant-loop-i l = l.links ≡ filled l.work l.at l.initial.links l.i

@@ -2,14 +2,19 @@
 -- out, and the work memory is cleared. Assumes nothing.
 use mathlib.Core.Path.{sym}
 use Rattle.workmap.proofs.Places.{placed}
-use Rattle.records.proofs.Answering.{records_ready, readable, records_done}
+use Rattle.records.proofs.Answering.{records_ready, readable, front_filled, records_done}
 use Rattle.theory.proofs.Files.Accepting.{fine_few}
 use native.Mathlib.Omega.{arith}
+use lib.Seq.{length-take-le}
 use Rattle.records.proofs.plan_records.Goals as goal
 
 pub returns : goal.returns
 returns c =
-    records_done c.map_of-m.ensures (sym c.in_ok-records.ensures) c.lay-counts.ensures c.fill_links.ensures
+    let xs = c.args.links.now in
+    let p = records_ready (sym c.in_ok-records.ensures) in
+    let r = readable c.map_of-m.ensures p.0 p.1 c.lay-counts.ensures in
+    records_done {xs = xs} c.map_of-m.ensures (sym c.in_ok-records.ensures) c.lay-counts.ensures
+    (front_filled xs c.lay-counts.result.need c.lay-counts.new.work c.map_of-m.result.links r.0 c.fill_links.ensures)
     c.clear.ensures
 
 -- without a trouble the input passes the tests
@@ -25,7 +30,19 @@ lay-counts-requires c = rw c.map_of-m.ensures (records_ready (sym c.in_ok-record
 pub fill_links-requires : goal.fill_links-requires
 fill_links-requires c =
     let p = records_ready (sym c.in_ok-records.ensures) in
-    readable c.map_of-m.ensures p.0 p.1 c.lay-counts.ensures
+    let r = readable c.map_of-m.ensures p.0 p.1 c.lay-counts.ensures in
+    rw (length-take-le c.lay-counts.result.need c.args.links.now r.0) r.1
+
+pub slice_bounds-fill_links-end : goal.slice_bounds-fill_links-end
+slice_bounds-fill_links-end c =
+    let p = records_ready (sym c.in_ok-records.ensures) in
+    (readable c.map_of-m.ensures p.0 p.1 c.lay-counts.ensures).0
+
+pub slice_bounds-fill_links-end-2 : goal.slice_bounds-fill_links-end-2
+slice_bounds-fill_links-end-2 c =
+    let p = records_ready (sym c.in_ok-records.ensures) in
+    let r = readable c.map_of-m.ensures p.0 p.1 c.lay-counts.ensures in
+    sym (length-take-le c.lay-counts.result.need c.args.links.now r.0)
 
 pub clear-requires : goal.clear-requires
 clear-requires c =
