@@ -28,7 +28,8 @@ fn written(net: NetworkLists<'_>, kept: bool) -> Outcome {
     }
 }
 
-// The file of a network's skeleton, which keeps the network's withdrawn zones.
+// The file of a network's skeleton, which keeps the network's withdrawn zones. No row wants a refusal of `skeleton`, so
+// that is told as not kept, and differs.
 pub fn skeleton_of(net: NetworkLists<'_>) -> Outcome {
     let mut from = [lent::UNSET; 10];
     let mut to = [lent::UNSET; 10];
@@ -50,7 +51,7 @@ pub fn skeleton_of(net: NetworkLists<'_>) -> Outcome {
     }
 }
 
-// Reads a row's file.
+// Reads a row's file. No row wants one that is accepted, so that is told as not kept, and differs.
 pub fn read_file(row: &Row) -> Outcome {
     let file = row.given.map(|byte| (byte % 256) as u8);
     let n = row.count.min(file.len());

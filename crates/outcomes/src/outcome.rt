@@ -15,6 +15,8 @@ pub enum Came {
 
 // An outcome: what came; the answer's numbers; how many links or bytes were put, or zones asked about; those, each as
 // one number, and zeros after them; and whether all other lent memory is as it has to be.
+// Kept (1): a row of the table is numbers, and an outcome is compared with it by ==, so kinds are numbers here as
+// there.
 // Kept (6): a count may be wrong, and is compared with the row's.
 #[derive(Clone, Copy, PartialEq)]
 pub struct Outcome {

@@ -40,13 +40,14 @@ impl From<Asked> for Came {
     }
 }
 
-// A row: its number in the table, from 1; its letter, a dash where it has none; what it asks for; the zone count; how
-// many numbers are given, and these; how many numbers are withdrawn, and then these; and the outcome that is wanted.
-// Kept (6): the table has ten places for each list, and there is no heap to cut them.
+// A row: its number in the table, from 1; its letter, if it has one; what it asks for; the zone count; how many numbers
+// are given, and these; how many numbers are withdrawn, and then these; and the outcome that is wanted.
+// Kept (6): the calls split each given number into an arc or make a byte of it by `map`, which an array has and a slice
+// has not; a borrowed `gone` would give the row a lifetime, and is cut in one place only.
 #[derive(Clone, Copy)]
 pub struct Row {
     pub number: usize,
-    pub letter: u8,
+    pub letter: Option<u8>,
     pub asked: Asked,
     pub zones: usize,
     pub count: usize,
@@ -65,7 +66,7 @@ impl Row {
         let asked = Asked::from(head[1]);
         Row {
             number,
-            letter: (head[0] % 256) as u8,
+            letter: u8::try_from(head[0]).ok().filter(|byte| *byte != b'-'),
             asked,
             zones: usize::from(head[2]),
             count: usize::from(head[3]).min(10),
@@ -86,8 +87,8 @@ impl Row {
 impl fmt::Display for Row {
     fn fmt<W: fmt::Write>(&self, f: &mut fmt::Formatter<W>) -> fmt::Result {
         match self.letter {
-            b'-' => write!(f, "{}", self.number),
-            letter => write!(f, "{}", char::from(letter)),
+            Some(letter) => write!(f, "{}", char::from(letter)),
+            None => write!(f, "{}", self.number),
         }
     }
 }
