@@ -1,7 +1,8 @@
 -- The bytes of a network, and lists of bytes with others put into them.
 --   rest_bytes i ts hs    the bytes of the arcs from index i on, with rest_cons, rest_length, rest_turn and rest_none
+--   arc_length p          how many bytes an arc is written as, with arcs_summed and sum_short of their sum
 -- Assumes nothing.
-use Prim.Native.Nat.{ℕ, suc, ◌+◌, ◌<◌, min}
+use Prim.Native.Nat.{ℕ, suc, ◌+◌, ◌*◌, ◌≤◌, ◌<◌, min}
 use native.Mathlib.Numerals.{add-one}
 use native.Mathlib.Omega.{arith}
 use native.Mathlib.Decide.{dec_lt}
@@ -9,10 +10,35 @@ use mathlib.Core.Path.{◌≡◌, refl}
 use mathlib.Core.List.{List, [], ◌∷◌, ◌++◌, append_assoc, zip_with}
 use lib.ListN.{length, get_or, drop, length-append, drop_of_length-le}
 use lib.Seq.{drop-cons, sets}
+use Rattle.std.specs.List.{zip, sum_by}
+use Rattle.std.proofs.lemmas.List.Sums.{sum_by-cons}
+use Rattle.theory.proofs.Files.NumberLaws.{length_bounds}
 use Rattle.rules.specs.Number.{number_bytes}
 use Rattle.rules.specs.File.{arc_bytes, arcs_bytes}
 use Rattle.rules.specs.Calls.{arcs_of}
 use Rattle.theory.proofs.Ground.Storing.{sets_append}
+
+-- How many bytes an arc is written as.
+abbrev pub arc_length : ℕ × ℕ → ℕ
+arc_length p = length (number_bytes p.0) + length (number_bytes p.1)
+
+-- The arcs are written as the sum of these.
+pub arcs_summed : (ts hs : List ℕ) → sum_by arc_length (zip ts hs) ≡ length (arcs_bytes (arcs_of ts hs))
+unfolding arcs_of zip_with arcs_bytes arc_bytes
+arcs_summed [] hs = refl
+arcs_summed (t ∷ ts) [] = refl
+arcs_summed (t ∷ ts) (h ∷ hs) =
+    let first = sum_by-cons arc_length (t, h) (zip ts hs) in
+    let rest = arcs_summed ts hs in
+    simp length-append (omega arith)
+
+-- The sum is at most six for each tail.
+pub sum_short : (ts hs : List ℕ) → sum_by arc_length (zip ts hs) ≤ 6 * length ts
+sum_short [] hs = omega arith
+sum_short (t ∷ ts) [] = omega arith
+sum_short (t ∷ ts) (h ∷ hs) =
+    let first = sum_by-cons arc_length (t, h) (zip ts hs) in
+    omega (arith, first, length_bounds t, length_bounds h, sum_short ts hs)
 
 -- The bytes of the arcs from index i on.
 abbrev pub rest_bytes : ℕ → List ℕ → List ℕ → List ℕ

@@ -16,13 +16,11 @@ pub fn arcs_length(tails: &[u16], heads: &[u16]) -> usize
     requires { length tails.now ≤ 4096 }
     ensures { result ≡ length (arcs_bytes (arcs_of tails.now heads.now)) }
 {
-    let mut total = 0;
-    for (&tail, &head) in tails.iter().zip(heads) {
-        let t = number_length(usize::from(tail));
-        let h = number_length(usize::from(head));
-        total += t + h;
-    }
-    total
+    tails
+        .iter()
+        .zip(heads)
+        .map(|(&tail, &head)| number_length(usize::from(tail)) + number_length(usize::from(head)))
+        .sum()
 }
 
 // Puts the arcs in, one after the other, from a place on.

@@ -1,48 +1,42 @@
-use Prim.Native.Nat.{◌<◌}
-use native.Mathlib.Omega.{arith}
-use mathlib.Core.Path.{◌≡◌, ap}
-use lib.ListN.{length, get_or, length-append}
-use Rattle.std.proofs.lemmas.Slice.Zip.{zip_turn, zip_end}
-use Rattle.rules.specs.Number.{number_bytes}
+-- `arcs_length` meets its contract: the chain yields the length of each arc, and their sum fits. Assumes nothing.
+use Rattle.std.proofs.Common.{rules, arith}
+use borrow.Author.Tests.{tests}
+use mathlib.Core.Path.{◌∙◌}
+use Rattle.std.specs.List.{zip}
+use Rattle.std.proofs.lemmas.Iterator.{YieldsList-from_slice, YieldsList-from_zip, YieldsList-from_map}
+use Rattle.std.proofs.lemmas.Iterator.Consumers.{sum_by_from_yields_List, fits_by_from_yields_list}
+use Rattle.std.proofs.lemmas.Iterator.Adapters.{serves_from_places}
 use Rattle.theory.proofs.Files.NumberLaws.{length_bounds}
-use Rattle.filebytes.proofs.Bytes.{rest_length, rest_none}
-use Rattle.filebytes.proofs.arcs_length.Goals.{In-Some}
+use Rattle.filebytes.proofs.Bytes.{arc_length, arcs_summed, sum_short}
 use Rattle.filebytes.proofs.arcs_length.Goals as goal
-
--- The arc of this turn is the next of the two lists.
-next : (c : In-Some) → let a = c.args in let i = length c.loop-tail.yielded in
-    (i < length a.tails.now) × (i < length a.heads.now) × (c.in-Some.field-0-0.now ≡ get_or a.tails.now i 0)
-    × (c.in-Some.field-0-1.now ≡ get_or a.heads.now i 0)
-next c =
-    let a = c.args in
-    let t = zip_turn a.tails.now a.heads.now c.loop-tail.yielded
-    _ _ c.next.new.self _ (cc) (cc) c.loop-tail.yielded_by _ c.in-Some.is c.next.ensures.steps in
-    (t.0, t.1, t.2 0, t.3 0)
-
-pub overflow_add-total : goal.overflow_add-total
-overflow_add-total c = omega (arith, length_bounds c.from.result, length_bounds c.from-in-loop-tail.result)
-
-pub overflow_add-total-in-loop-tail : goal.overflow_add-total-in-loop-tail
-overflow_add-total-in-loop-tail c =
-    let n = next (goal.at.overflow_add-total-in-loop-tail c).In-Some in
-    omega (arith, length_bounds c.from.result, length_bounds c.from-in-loop-tail.result)
-
-pub loop-tail-preserved : goal.loop-tail-preserved
-loop-tail-preserved c =
-    let a = c.args in
-    let i = length c.loop-tail.yielded in
-    let n = next (goal.at.loop-tail-preserved c).In-Some in
-    let t : c.number_length-t.result ≡ length (number_bytes (get_or a.tails.now i 0)) = cc in
-    let h : c.number_length-h.result ≡ length (number_bytes (get_or a.heads.now i 0)) = cc in
-    let e = rest_length i a.tails.now a.heads.now n.0 n.1 in
-    rw length-append
-    (omega (arith, length_bounds c.from.result, length_bounds c.from-in-loop-tail.result), omega arith)
 
 pub returns : goal.returns
 returns c =
     let a = c.args in
-    let l = c.loop-tail in
-    let n = zip_end a.tails.now a.heads.now l.yielded
-    _ _ c.next.new.self _ (cc) (cc) l.yielded_by c.in-None.is c.next.ensures.steps in
-    let e = ap length (rest_none _ a.tails.now a.heads.now n) in
-    omega (arith, l.invariant.1)
+    sum_by_from_yields_List arc_length (zip a.tails.now a.heads.now) _ c.sum.result c.sum.ensures.ran
+    (YieldsList-from_map _ arc_length
+    (YieldsList-from_zip (YieldsList-from_slice a.tails.now cc) (YieldsList-from_slice a.heads.now cc))
+    (cc)
+    (λ x r q k. search (rules, tests)))
+    ∙ arcs_summed a.tails.now a.heads.now
+
+pub sum-requires-clause-can : goal.sum-requires-clause-can
+sum-requires-clause-can c =
+    let a = c.args in (
+      (tt, tt),
+      serves_from_places
+          (YieldsList-from_zip (YieldsList-from_slice a.tails.now cc) (YieldsList-from_slice a.heads.now cc))
+          (λ x q k. search (rules, tests))
+          (λ x k low e κs p n l w first t second h.
+          omega (arith, t.ensures, h.ensures, length_bounds first.result, length_bounds second.result)),
+    )
+
+pub sum-requires-clause-fits : goal.sum-requires-clause-fits
+sum-requires-clause-fits c =
+    let a = c.args in
+    fits_by_from_yields_list arc_length (zip a.tails.now a.heads.now) _ _
+    (YieldsList-from_map _ arc_length
+    (YieldsList-from_zip (YieldsList-from_slice a.tails.now cc) (YieldsList-from_slice a.heads.now cc))
+    (cc)
+    (λ x r q k. search (rules, tests)))
+    (omega (arith, sum_short a.tails.now a.heads.now))
