@@ -1,14 +1,15 @@
 -- The core of `skeleton`: from the readied memory to the named one, and from the skeleton's arcs in no order to the
 -- skeleton.
 --   named_here      after naming the names stand
---   sort_asked      the arcs that are put can be sorted
+--   drawn_in, sort_asked   the arcs that are put lie in both lists, and can be sorted
 --   sketched        sorted they are the skeleton, and clearing leaves what came behind
 -- Assumes nothing.
 use mathlib.Core.Path.{◌≡◌, subst, ◌∙◌}
-use mathlib.Core.List.{List, Memᴰ as In}
+use mathlib.Core.List.{List, ◌++◌, Memᴰ as In}
 use Prim.Native.Nat.{ℕ, ◌+◌, ◌≤◌}
 use native.Mathlib.Omega.{arith}
-use lib.ListN.{length, drop}
+use lib.ListN.{length, take, drop}
+use lib.Seq.{length-take-le}
 use borrow.Author.Tests.{eq-eqb}
 use Rattle.rules.specs.Lists.{cleared}
 use Rattle.rules.specs.Network.{Arc, network_of}
@@ -28,7 +29,7 @@ use Rattle.memory.proofs.Puts.{put_over}
 use Rattle.arranged.specs.Ready.{Readyable, Readied}
 use Rattle.components.specs.Components.{Components}
 use Rattle.sorting.specs.Sorting.{Sortable, Sorted}
-use Rattle.sorting.proofs.Sorts.{put_sortable, put_sorted}
+use Rattle.sorting.proofs.Sorts.{put_in, put_sortable, put_sorted}
 use Rattle.drawing.specs.Drawing.{Named, Drawn}
 use Rattle.skeleton.specs.Promises.{Sketchable, Sketched}
 
@@ -73,8 +74,12 @@ module _ (n : ℕ) (ts hs w w₁ : List ℕ) (R : Readyable (map_of n (length ts
       drawn_fit =
           record { tails = omega (arith, D.few, S.tails_room); heads = omega (arith, D.few, S.heads_room) }
 
+      -- they lie in both lists
+      pub drawn_in : (r ≤ length ots₁) × (r ≤ length ohs₁)
+      drawn_in = put_in drawn_fit D.put
+
       -- they can be sorted
-      pub sort_asked : Sortable (rows_at n) ots₁ ohs₁ r w₃
+      pub sort_asked : Sortable (rows_at n) (take r ots₁) (take r ohs₁) w₃
       sort_asked =
           put_sortable drawn_fit D.put D.between w₃ R.fine.accepted.zones_most
           (omega (arith, D.put.behind, D.few, fine_few R.fine)) (omega arith)
@@ -90,12 +95,20 @@ module _ (n : ℕ) (ts hs w w₁ : List ℕ) (R : Readyable (map_of n (length ts
           ))
 
       -- w₄ is the memory after they are sorted
-      module _ (w₄ ots₂ ohs₂ : List ℕ) (Q : Sorted (rows_at n) ots₁ ohs₁ r w₃ ots₂ ohs₂ w₄) where
-        -- then they are the skeleton
-        skeleton_put : ArcsPut ots ohs ots₂ ohs₂ 0 (skeleton (handed n ts hs)) r
+      module _ (w₄ ots₂ ohs₂ : List ℕ) (Q : Sorted (rows_at n) (take r ots₁) (take r ohs₁) w₃ ots₂ ohs₂ w₄) where
+        -- the tails that are then in the list
+        abbrev tails₂ : List ℕ
+        tails₂ = ots₂ ++ drop r ots₁
+
+        -- and the heads
+        abbrev heads₂ : List ℕ
+        heads₂ = ohs₂ ++ drop r ohs₁
+
+        -- they have the skeleton
+        skeleton_put : ArcsPut ots ohs tails₂ heads₂ 0 (skeleton (handed n ts hs)) r
         skeleton_put =
             subst
-            (λ (es : List Arc). ArcsPut ots ohs ots₂ ohs₂ 0 es r)
+            (λ (es : List Arc). ArcsPut ots ohs tails₂ heads₂ 0 es r)
             D.sorted
             (put_sorted drawn_fit D.put D.between Q)
 
@@ -103,15 +116,16 @@ module _ (n : ℕ) (ts hs w w₁ : List ℕ) (R : Readyable (map_of n (length ts
         behind : drop (asked_work n (length ts)) w₄ ≡ drop (asked_work n (length ts)) w
         behind =
             let asked = asked_work n (length ts) in
-            drop_deeper w₃ w₄ ((rows_at n).rows + r) asked
-            (omega (arith, D.put.behind, D.few, R.fine.accepted.zones_least)) Q.high
+            let many = length-take-le r ots₁ drawn_in.0 in
+            drop_deeper w₃ w₄ ((rows_at n).rows + length (take r ots₁)) asked
+            (omega (arith, many, D.put.behind, D.few, R.fine.accepted.zones_least)) Q.high
             ∙ D.beyond
             ∙ drop_deeper w₁ w₂ (rows_at n).starts asked (omega arith) C.back
             ∙ A.standing.beyond
 
         -- the skeleton is put
         pub sketched : (w₅ : List ℕ) → w₅ ≡ cleared (asked_work n (length ts)) w₄ →
-            Sketched n ts hs ots ohs w r ots₂ ohs₂ w₅
+            Sketched n ts hs ots ohs w r tails₂ heads₂ w₅
         sketched w₅ e =
             let N = handed n ts hs in
             let fits : ArcsFit ots ohs 0 (skeleton N) =
@@ -120,7 +134,7 @@ module _ (n : ℕ) (ts hs w w₁ : List ℕ) (R : Readyable (map_of n (length ts
               heads = omega (arith, skeleton_put.behind, D.put.behind, drawn_fit.heads);
             }
             in
-            let both = put_over ots ohs ots₂ ohs₂ r (skeleton N) fits skeleton_put in
+            let both = put_over ots ohs tails₂ heads₂ r (skeleton N) fits skeleton_put in
             record {
               count = omega (arith, skeleton_put.behind);
               tails = both.0;

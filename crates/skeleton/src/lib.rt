@@ -32,7 +32,7 @@ fn sketch(
     ready(m, tails, heads, work);
     let places = name_all(work, m);
     let count = draw(m, places, tails, heads, from, to, work);
-    sort(m.sorting, from, to, count, work);
+    sort(m.sorting, &mut from[..count], &mut to[..count], work);
     clear(work, m.asked);
     count
 }

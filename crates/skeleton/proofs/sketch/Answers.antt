@@ -3,7 +3,7 @@
 use native.Mathlib.Omega.{arith}
 use Prim.Native.Nat.{ℕ}
 use mathlib.Core.Path.{◌≡◌, refl, ap, subst}
-use lib.ListN.{length}
+use lib.ListN.{length, take}
 use Rattle.rules.specs.Lists.{cleared}
 use Rattle.rules.specs.Network.{network_of}
 use Rattle.rules.specs.Calls.{arcs_of}
@@ -63,8 +63,9 @@ sorting_is c = ap (λ (m : Map). m.sorting) c.map_of-m.ensures
 -- what sorting left
 sorted_here : (c : After-sort) →
     let l = c.draw-count.new in
+    let r = c.draw-count.result in
     let k = c.sort.new in
-    Sorted (rows_at c.args.zones) l.from l.to c.draw-count.result l.work k.tails k.heads k.work
+    Sorted (rows_at c.args.zones) (take r l.from) (take r l.to) l.work k.tails k.heads k.work
 sorted_here c =
     let sorting_is : c.map_of-m.result.sorting ≡ rows_at c.args.zones =
     ap (λ (m : Map). m.sorting) c.map_of-m.ensures in
@@ -120,7 +121,8 @@ sort-requires c =
     let a = c.args in
     let l = c.draw-count.new in
     let here = goal.at.sort-requires c in
-    let sortable_here : Sortable (rows_at a.zones) l.from l.to c.draw-count.result l.work =
+    let r = c.draw-count.result in
+    let sortable_here : Sortable (rows_at a.zones) (take r l.from) (take r l.to) l.work =
     sort_asked a.zones a.tails.now a.heads.now a.work.now c.ready.new.work c.requires.ready
     (readied_there here.After-ready)
     c.name_all-places.new.work c.name_all-places.result (components_here here.After-name_all-places)
