@@ -8,6 +8,7 @@ ghost use Rattle.buffer.specs.Put.{HasRoom, Appended};
 ghost use Rattle.buffer.specs.Words.{labelled, two};
 
 // A lent buffer, and how many bytes of it are text.
+// Kept (6): the caller lends the bytes, and there is no heap; this is the one type that has both.
 #[derive(Drop)]
 pub struct Page<'a> {
     bytes: &'a mut [u8],
@@ -51,7 +52,7 @@ impl<'a> Page<'a> {
     }
 
     // Puts the decimal digits of a number: those of its tenth, and then its last digit.
-    // Kept (4): by its contract `write!` may fail at any text, and what `respond` prints is promised whole.
+    // Kept (4): by its contract `write!` may fail, and the promise has the rules' own decimal digits, put whole.
     pub fn put_number(&mut self, n: usize)
         requires { HasRoom self.old (decimal n) }
         ensures { Appended self.old (decimal n) self.new }

@@ -1,7 +1,7 @@
 // The proved cases: document 01's lettered cases A to L, eight networks of shapes that these leave out, and networks
 // with withdrawn zones, as rows of one constant array. `rules` has the same table as definitions, with the one test
-// that is computed over all its rows and the statement that every row is right (specs/Cases.antt). Here each row of
-// the array is shown to be that row.
+// that is computed over all its rows and the statement that every row is right (crates/rules/specs/Cases.antt). Here
+// each row of the array is shown to be that row.
 #![tactic(auto)]
 
 ghost use Rattle.std.specs.Prelude.{◌≡◌, [], map, ◌<◌, get_or};
@@ -14,6 +14,7 @@ ghost use Rattle.rules.specs.Cases.{rows, row_numbers};
 // arcs or a file's bytes, and the third what is wanted, links or the bytes of the skeleton's file, or else the two
 // zones of the question. The fourth has how many numbers are withdrawn, and these. An arc is one number, 0x23 for the
 // arc from 2 to 3, and so is a link, 0x150 for the chain link from 5 to 0.
+// Kept (1): each row is proved to be the rules' own row, which is numbers, so kinds and counts are numbers here.
 const ROWS: [[[u16; 10]; 4]; 40] = [
     // A: ring and chain
     [

@@ -74,6 +74,7 @@ impl Values for PlanCounts {
 }
 
 // Puts an answer: its values, or the number and the place of its refusal.
+// Kept (1): C has eight numbers and no Result, and a first number 0 is its Ok.
 pub fn put_answer<T: Values>(answer: &mut [u64; 8], a: Result<T, Trouble>)
     ensures { answer.new ≡ answer_eight (T.told a) }
 {

@@ -63,6 +63,7 @@ fn list(at: KindsAt, kind: Kind, to: usize, work: &mut [u16]) -> usize
     ensures { Listing at (entered_mark kind) (exited_mark kind) to at.zones result work.old work.new }
 {
     let mut count = 0;
+    // Kept (3): a filter would hold the slice borrowed that the loop stores into, so `count` is counted by hand.
     for z in 0..at.zones {
         if of_kind(at, kind, z, work) {
             work[to + count] = z as u16;

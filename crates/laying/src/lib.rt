@@ -15,6 +15,7 @@ use survey::survey;
 use workmap::Map;
 
 // The counts of the kinds, with the pairs and the links of a connection.
+// Kept (4): `PlanPromise` tells the five counts one by one, and PlanCounts has them so.
 fn counts_with(k: Counts, made: Connection) -> PlanCounts
     ensures { result ≡ counts_with k made }
 {

@@ -10,6 +10,7 @@ use rules::Why;
 
 // The links of a plan as three lists of numbers: where each starts, where it ends, and why it is there.
 #[derive(Clone, Copy)]
+// Kept (6): C lends PLAN three lists of links, and they are printed as they stand there.
 pub struct LinkLists<'a> {
     pub from: &'a [u16],
     pub to: &'a [u16],

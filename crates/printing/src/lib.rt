@@ -7,6 +7,7 @@ use std::fmt::Display;
 use std::io;
 
 // What a call answers: the number 0, the place 0 and its value, or a refusal's number, its place and no value.
+// Kept (1): the expected output has a number first, which is 0 where nothing is refused.
 pub fn answer<T: Display + Drop>(rt: &impl Print, answer: Result<T, Trouble>) -> io::Result<()> {
     match answer {
         Ok(value) => print!(rt; " 0 0 {value}"),

@@ -38,6 +38,7 @@ fn put_planned(page: &mut Page<'_>, zones: usize, tails: &[u16], heads: &[u16])
 
 // From the bytes of a file to the bytes that linkplan writes: they stand at the start of `out`, and their number is
 // the answer.
+// Kept (6): `Responded`, which is promised, speaks of the length and of the whole buffer.
 pub fn respond(file: &[u8], out: &mut [u8; 20000]) -> usize
     ensures prefix_len { IsPrefixLen result out.new }
     ensures responded { Responded file.now out.old result out.new }

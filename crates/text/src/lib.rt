@@ -28,6 +28,7 @@ fn say_plan(page: &mut Page<'_>, file: FileCounts, plan: PlanCounts, links: Link
 }
 
 // Puts what is printed for an answer of PLAN over the lists that it left.
+// Kept (5): the three lists are as long as they were lent, and only an answer with links says where to cut them.
 pub fn put_answer(
     page: &mut Page<'_>,
     file: FileCounts,
