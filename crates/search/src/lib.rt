@@ -6,34 +6,36 @@
 //     top, tail     how many zones the queue holds, before the search and now
 #![tactic(auto)]
 
-ghost use Rattle.std.specs.Prelude.{◌+◌, ◌<◌, length, get_or};
 ghost use Rattle.search.specs.Marking.{Visitable, Visited, Underway, Drained};
 ghost use Rattle.search.specs.Marking.{Spreadable, Spread, Searchable, Searched};
 
+use arranged::step;
 use workmap::{RowsAt, SearchAt};
 
-// Marks the unmarked zones of the row of z and puts them on the queue. Answers the queue's new end.
+// Marks the unmarked zones of the row from `from` up to `to` and puts them on the queue. Answers the queue's new end.
 // Kept (5): which rows are searched, and where marks and queue stand, are chosen apart, as by `roots` and `strength`.
-fn visit(work: &mut [u16], rows: RowsAt, at: SearchAt, x: u16, z: usize, tail: usize) -> usize
-    requires in_rows { rows.starts + z + 1 < length work.old }
-    requires visitable { let first = rows.rows + get_or work.old (rows.starts + z) 0 in
-        let behind = rows.rows + get_or work.old (rows.starts + z + 1) 0 in
-        Visitable work.old rows at x first behind tail }
-    ensures { let first = rows.rows + get_or work.old (rows.starts + z) 0 in
-        let behind = rows.rows + get_or work.old (rows.starts + z + 1) 0 in
-        Visited work.old work.new rows at x first behind tail result }
+fn visit(
+    work: &mut [u16],
+    rows: RowsAt,
+    at: SearchAt,
+    x: u16,
+    from: usize,
+    to: usize,
+    tail: usize,
+) -> usize
+    requires { Visitable work.old rows at x from to tail }
+    ensures { Visited work.old work.new rows at x from to tail result }
 {
-    let first = rows.rows + usize::from(work[rows.starts + z]);
-    let behind = rows.rows + usize::from(work[rows.starts + z + 1]);
+    let mut a = from;
     let mut end = tail;
-    for i in first..behind {
-        let h = work[i];
+    // Kept (3): where the next unmarked zone stands depends on the marks that are given on the way.
+    while let Some(i) = step(work, a, to, at.marks, rows.zones) {
+        let h = work[a + i];
         let m = at.marks + usize::from(h);
-        if work[m] == 0 {
-            work[m] = x;
-            work[at.queue + end] = h;
-            end += 1;
-        }
+        work[m] = x;
+        work[at.queue + end] = h;
+        end += 1;
+        a = a + i + 1;
     }
     end
 }
@@ -49,7 +51,9 @@ fn drain(work: &mut [u16], rows: RowsAt, at: SearchAt, x: u16, top: usize) -> us
     // Kept (3): the queue grows while it is gone through, so no range is known beforehand.
     while head < tail {
         let z = usize::from(work[at.queue + head]);
-        tail = visit(work, rows, at, x, z, tail);
+        let a = rows.rows + usize::from(work[rows.starts + z]);
+        let b = rows.rows + usize::from(work[rows.starts + z + 1]);
+        tail = visit(work, rows, at, x, a, b, tail);
         head += 1;
     }
     tail

@@ -43,6 +43,18 @@ bounds-work-at c =
     let U = c.requires in
     spot (c.loop-head.invariant.1.1 U.began U.from U.course) c.loop-head-test.true
 
+pub bounds-work-rows : goal.bounds-work-rows
+bounds-work-rows c =
+    let U = c.requires in
+    let G = c.loop-head.invariant.1.1 U.began U.from U.course in
+    omega (arith, inside G c.loop-head-test.true _ c.from-z.ensures)
+
+pub bounds-work-rows-in-loop-head : goal.bounds-work-rows-in-loop-head
+bounds-work-rows-in-loop-head c =
+    let U = c.requires in
+    let G = c.loop-head.invariant.1.1 U.began U.from U.course in
+    omega (arith, inside G c.loop-head-test.true _ c.from-z.ensures)
+
 pub loop-head-smaller : goal.loop-head-smaller
 loop-head-smaller c =
     let U = c.requires in
@@ -53,7 +65,7 @@ pub loop-head-preserved : goal.loop-head-preserved
 loop-head-preserved c =
     let l = c.loop-head in
     let more = c.loop-head-test.true in
-    let seen = c.visit-tail.ensures in (
+    let seen = rw (c.from.ensures, c.from-in-loop-head.ensures) at c.visit-tail.ensures in (
       omega (arith, l.invariant.0, seen.grown),
       (
         seen.kept.long ∙ l.invariant.1.0,
@@ -73,5 +85,4 @@ pub visit-tail-requires : goal.visit-tail-requires
 visit-tail-requires c =
     let U = c.requires in
     let G = c.loop-head.invariant.1.1 U.began U.from U.course in
-    let more = c.loop-head-test.true in
-    record { in_rows = inside G more _ c.from-z.ensures; visitable = ready G more _ c.from-z.ensures }
+    rw (c.from.ensures, c.from-in-loop-head.ensures) (ready G c.loop-head-test.true _ c.from-z.ensures)

@@ -1,9 +1,12 @@
--- `search::visit` meets its contract: the row can be visited, up to place `i` it is, and a turn visits one zone more.
--- Assumes nothing.
-use Rattle.search.specs.Marking.{Visitable, Visited}
+-- `search::visit` meets its contract: the row up to `a` is visited, and a turn visits the next unmarked zone too. The
+-- measure is what is left of the row. Assumes nothing.
+use Prim.Native.Nat.{◌≤◌, ◌-◌}
+use Rattle.search.specs.Marking.{Visited}
 use Rattle.search.proofs.visit.Given as goal
 
 abbrev pub invariant-loop-i : goal.invariant-loop-i
 invariant-loop-i l =
-    Visitable l.fn.work l.fn.rows l.at l.x l.first l.behind l.tail
-    × Visited l.fn.work l.work l.fn.rows l.at l.x l.first l.i l.tail l.end
+    (l.from ≤ l.a) × ((l.a ≤ l.to) × Visited l.initial.work l.work l.rows l.at l.x l.from l.a l.tail l.end)
+
+abbrev pub decreases-loop-i : goal.decreases-loop-i
+decreases-loop-i l = l.to - l.a
