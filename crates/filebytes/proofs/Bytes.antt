@@ -75,7 +75,7 @@ tails_alone [] = refl
 tails_alone (t ∷ ts) = refl
 
 -- Past the last arc there are none.
-pub rest_none : (i : ℕ) (ts hs : List ℕ) → i ≡ min (length ts) (length hs) → rest_bytes i ts hs ≡ []
+pub rest_none : (i : ℕ) (ts hs : List ℕ) → min (length ts) (length hs) ≤ i → rest_bytes i ts hs ≡ []
 unfolding arcs_of zip_with arcs_bytes
 rest_none i ts hs e =
     elim (dec_lt i (length ts)) [

@@ -2,6 +2,7 @@
 --   network_told     the tests of a network are those before the arcs, and then the arcs'
 --   network_counts   where they find nothing, the counts are within their bounds
 --   none_told        NONE, after LIST: the list of withdrawn numbers is as long as the zone count
+--   none_found       so what finds that, after LIST, finds NONE
 --   first_below      where the tests before the arcs find nothing, each withdrawn number is below 1,024
 --   arcs_told        the arcs' tests with a set of the withdrawn numbers are those with their list
 -- A list that passed LIST withdraws all numbers exactly where it is as long as the zone count. A network that passes
@@ -15,6 +16,8 @@ use mathlib.Core.Bool.{Bool, not}
 use lib.Dec.{eqb, ltb}
 use lib.ListN.{length}
 use borrow.Author.Tests.{ltb-false}
+use Rattle.std.specs.Prelude.{Result, Ok}
+use Rattle.rules.specs.declared.Trouble.{Trouble}
 use Rattle.rules.specs.declared.TroubleKind.TheVariants.{Pair, Zones, Arcs, None}
 use Rattle.rules.specs.Lists.{listed}
 use Rattle.rules.specs.Network.{Arc}
@@ -27,6 +30,8 @@ use Rattle.theory.proofs.Files.Accepting.{fine_with, fine_few}
 use Rattle.zoneset.specs.declared.ZoneSet.{ZoneSet}
 use Rattle.zoneset.specs.Held.{held}
 use Rattle.zoneset.proofs.SetLaws.{one_test}
+use Rattle.probes.specs.Tested.{FoundBy}
+use Rattle.probes.proofs.Chains.{FoundAfter, found_goes_on, found_same}
 use Rattle.intake.specs.Taken.{first_tests}
 
 -- NONE, after LIST: the list is as long as the zone count.
@@ -34,6 +39,17 @@ pub none_told : (n : ℕ) (gone : List ℕ) → none ≡ first_trouble (list_tes
     → first_trouble (none_test n gone ∷ []) ≡ first_trouble (test (eqb (length gone) n) None 0 ∷ [])
 none_told n gone e =
     ap (λ (a : Bool). first_trouble (test a None 0 ∷ [])) (none_count n gone (list_rises n 0 0 gone (sym e)))
+
+-- What finds, after LIST, that the list is as long as the zone count finds NONE.
+pub none_found : {A B : Type 0} {x : A} {r : Result B Trouble} (n : ℕ) (gone : List ℕ)
+    → none ≡ first_trouble (list_tests n 0 0 gone) → FoundBy (test (eqb (length gone) n) None 0 ∷ []) r
+    → FoundAfter (Ok x) (none_test n gone ∷ []) r
+none_found {x = x} n gone e f =
+    found_same
+    {xs = test (eqb (length gone) n) None 0 ∷ []}
+    {ys = none_test n gone ∷ []}
+    (λ fine. sym (none_told n gone e))
+    (found_goes_on {x = x} f)
 
 module _ (n : ℕ) (ts hs gone : List ℕ) where
   -- The tests of a network are those before the arcs, and then the arcs'.

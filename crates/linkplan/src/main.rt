@@ -2,17 +2,18 @@
 // `respond` goes from the bytes that were read to the bytes to write, in a lent buffer; `main` only reads and writes.
 #![tactic(auto)]
 
-ghost use Rattle.std.specs.Prelude.{◌≤◌, length};
+ghost use Rattle.std.specs.Prelude.{◌≤◌, length, take};
 ghost use Rattle.std.specs.Io.KnownBytes.{Consumes};
 
 use responding::respond;
 use std::io::Read;
 
-// Reads until the list is full or the input ends, and hands out what was read: it stands at the front of the list, in
-// its order, and nothing else of the input is gone. A read that fails is the end of the input.
-fn read_full<'a, R: Read>(reader: &mut R, into: &'a mut [u8]) -> &'a [u8]
-    ensures within { length result.now ≤ length into.old }
-    ensures front { Consumes (R.remaining reader.old) (R.remaining reader.new) result.now }
+// Reads until the list is full or the input ends, and says how much was read: the list begins with it, in its order,
+// and nothing else of the input is gone. A read that fails is the end of the input.
+// Kept (6): a part that is handed on takes the list out of the contract, which says how the list begins.
+fn read_full<R: Read>(reader: &mut R, into: &mut [u8]) -> usize
+    ensures within { result ≤ length into.new }
+    ensures front { Consumes (R.remaining reader.old) (R.remaining reader.new) (take result into.new) }
 {
     let mut got = 0;
     // Kept (3): `read_exact` loses the count where the input ends early, and `read_to_end` needs a heap.
@@ -22,7 +23,7 @@ fn read_full<'a, R: Read>(reader: &mut R, into: &'a mut [u8]) -> &'a [u8]
             Ok(n) => got += n,
         }
     }
-    &into[..got]
+    got
 }
 
 // 16,389 bytes decide any input.
@@ -30,8 +31,8 @@ fn main(rt: HostRuntime) {
     let mut input = [0u8; 16389];
     let mut out = [0u8; 20000];
     let mut reader = rt.reader();
-    let file = read_full(&mut reader, &mut input);
-    let length = respond(file, &mut out);
+    let got = read_full(&mut reader, &mut input);
+    let length = respond(&input[..got], &mut out);
     if rt.write_all(&out[..length]).is_err() {
         // Where nobody can be told either, nothing is left to do.
         let _ = eprintln!(rt; "linkplan: the output could not be written whole");

@@ -38,21 +38,21 @@ fill_none xs =
           ∙ ap (λ (b : Bool). b || listed xs z) (bit_none (z % 16));
     }
 
--- one number more
-pub fill_turn : {ws xs : List ℕ} {i : ℕ} → Filling ws xs i → i < length xs → get_or xs i 0 < 1024
-    → Filling (with_bit ws 64 0 (get_or xs i 0)) xs (i + 1)
-fill_turn {ws} {xs} {i} F inside low =
-    let x : ℕ = get_or xs i 0 in
-    record {
-      long = with_bit_long ws 64 0 x ∙ F.long;
+-- one number more, x
+pub fill_turn : {ws xs : List ℕ} {i x : ℕ} → Filling ws xs i → i < length xs → get_or xs i 0 < 1024 → x ≡ get_or xs i 0
+    → Filling (with_bit ws 64 0 x) xs (i + 1)
+fill_turn {ws} {xs} {i} {x} F inside low e =
+    rw e
+    (record {
+      long = with_bit_long ws 64 0 (get_or xs i 0) ∙ F.long;
       all =
           λ z h.
           ap (λ (b : Bool). b || listed (drop (i + 1) xs) z)
-          (with_bit_bits ws 64 0 x 0 z (omega (arith, F.long)) (omega arith) (omega arith))
-          ∙ moved (eqb z x) (bit_in ws 64 0 z) (listed (drop (i + 1) xs) z)
+          (with_bit_bits ws 64 0 (get_or xs i 0) 0 z (omega (arith, F.long)) (omega arith) (omega arith))
+          ∙ moved (eqb z (get_or xs i 0)) (bit_in ws 64 0 z) (listed (drop (i + 1) xs) z)
           ∙ ap (λ (b : Bool). bit_in ws 64 0 z || b) (sym (at_drop_more (λ ys. listed ys z) xs i 0 inside))
           ∙ F.all z h;
-    }
+    })
   where
     moved : (t b r : Bool) → ((t || b) || r) ≡ (b || elim t [ true ↦ true | false ↦ r ])
     moved true true r = refl

@@ -66,4 +66,4 @@ returns c =
     let l = c.loop-tail in
     let n = zip_end a.tails.now a.heads.now l.yielded
     _ _ c.next.new.self _ (cc) (cc) l.yielded_by c.in-None.is c.next.ensures.steps in
-    sym (l.invariant.1 ∙ rw (rest_none _ a.tails.now a.heads.now n))
+    sym (l.invariant.1 ∙ rw (rest_none (length l.yielded) a.tails.now a.heads.now (omega (arith, n))))

@@ -1,7 +1,9 @@
 use native.Mathlib.Omega.{arith}
 use Prim.Native.Nat.{ℕ, ◌<◌}
+use mathlib.Core.Path.{◌≡◌}
 use mathlib.Core.List.{List, Memᴰ as In}
 use lib.ListN.{length, get_or}
+use lib.Seq.{get_or-take, get_or-drop}
 use Rattle.theory.proofs.Ground.Indices.{at_in}
 use Rattle.withdrawn.proofs.Stamps.{stamped_more}
 use Rattle.withdrawn.proofs.stamp.Goals as goal
@@ -14,11 +16,15 @@ pub loop-zone-preserved : goal.loop-zone-preserved
 loop-zone-preserved c =
     let a = c.args in
     let k = c.loop-zone.zone-index in
-    rw c.from.ensures
+    let next : c.from.result ≡ get_or a.gone.now k 0 = grind (arith, c.from.ensures, get_or-take, get_or-drop) in
+    rw next
     (stamped_more a.work.now c.loop-zone.work a.gone.now a.at a.n k a.mark c.loop-zone.invariant
     c.requires.within (omega arith) (low a.gone.now a.n c.requires.gone_below k (omega arith)))
 
 pub bounds-work-at : goal.bounds-work-at
 bounds-work-at c =
+    let a = c.args in
     let R = c.requires in
-    omega (arith, low c.args.gone.now c.args.n R.gone_below, R.within, c.loop-zone.invariant.long)
+    let k = c.loop-zone.zone-index in
+    let next : c.from.result ≡ get_or a.gone.now k 0 = grind (arith, c.from.ensures, get_or-take, get_or-drop) in
+    omega (arith, next, low a.gone.now a.n R.gone_below k (omega arith), R.within, c.loop-zone.invariant.long)
