@@ -71,9 +71,9 @@ module _ {w u : List ℕ} {b : Block} {e : ℕ} {s s' : ArcSink} {left : ℕ} (L
   pub places_laid : BlockLaid u b
   places_laid = laid_kept L u S.behind S.long
 
-  -- the next place is one
-  pub places_low : left - 1 < b.places
-  places_low = omega (arith, S.low)
+  -- the next place, j, is one
+  pub places_low : {j : ℕ} → j ≡ left - 1 → j < b.places
+  places_low same = omega (arith, S.low)
 
   -- the turns with this one
   more : e - (left - 1) ≡ suc (e - left)
@@ -101,31 +101,33 @@ module _ {w u : List ℕ} {b : Block} {e : ℕ} {s s' : ArcSink} {left : ℕ} (L
   arcs_grown = rw (arcs_now, more, here)
 
   -- they have room
-  pub places_room : SinkFit s (arcs_in w b e e) →
-      SinkFit s' (place_arcs (cell u b.tops) u b.first (left - 1) (row_heads u b (left - 1)))
-  places_room R =
+  pub places_room : {j : ℕ} → j ≡ left - 1 → SinkFit s (arcs_in w b e e) →
+      SinkFit s' (place_arcs (cell u b.tops) u b.first j (row_heads u b j))
+  places_room same R =
       let few = places_arcs_few (cell w b.tops) w b.first (row_heads w b) e (e - (left - 1)) e (omega arith) in
       let grown = ap length arcs_grown in
       let both = length-append (arcs_in w b e (e - left))
       (place_arcs (cell u b.tops) u b.first (left - 1) (row_heads u b (left - 1))) in
       let long = sink_long S.put in
-      record {
+      rw same
+      (record {
         tails = omega (arith, few, grown, both, long.0, S.put.arcs.behind, R.tails);
         heads = omega (arith, few, grown, both, long.1, S.put.arcs.behind, R.heads);
-      }
+      })
 
   -- one turn more
-  pub places_turn : {v : List ℕ} {s'' : ArcSink} → PlaceTurned u v b (left - 1) s' s'' →
+  pub places_turn : {j : ℕ} {v : List ℕ} {s'' : ArcSink} → j ≡ left - 1 → PlaceTurned u v b j s' s'' →
       TurningPlaces w v b e s s'' (left - 1)
   unfolding places_turned
-  places_turn T =
+  places_turn {v = v} {s'' = s''} same K =
+      let T : PlaceTurned u v b (left - 1) s' s'' = rw same at K in
       record {
         low = omega (arith, S.low);
         long = ap length T.memory ∙ place_turned_long u b.first (left - 1) (row_heads u b (left - 1)) ∙ S.long;
         behind =
             ap (drop (b.places * 8)) T.memory
             ∙ place_turned_behind (b.places * 8) u b.first (left - 1) (row_heads u b (left - 1))
-            (row_room 8 b.places (left - 1) places_low)
+            (row_room 8 b.places (left - 1) (places_low refl))
             ∙ S.behind;
         memory =
             T.memory

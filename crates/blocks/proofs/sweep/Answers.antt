@@ -5,7 +5,7 @@ use Rattle.blocks.proofs.sweep.Goals as goal
 pub loop-j-preserved : goal.loop-j-preserved
 loop-j-preserved c =
     places_turn c.requires.block_laid c.requires.end_le_places c.loop-j.invariant
-    (omega arith) c.turn.ensures
+    (omega arith) (omega arith) c.turn.ensures
 
 pub loop-j-init : goal.loop-j-init
 loop-j-init c =
@@ -16,7 +16,8 @@ pub turn-requires : goal.turn-requires
 turn-requires c =
     record {
       block_laid = places_laid c.requires.block_laid c.requires.end_le_places c.loop-j.invariant (omega arith);
-      j_lt_places = places_low c.requires.block_laid c.requires.end_le_places c.loop-j.invariant (omega arith);
+      j_lt_places = places_low c.requires.block_laid c.requires.end_le_places c.loop-j.invariant
+          (omega arith) (omega arith);
       arcs_fit = places_room c.requires.block_laid c.requires.end_le_places c.loop-j.invariant
-          (omega arith) c.requires.arcs_fit;
+          (omega arith) (omega arith) c.requires.arcs_fit;
     }
