@@ -10,7 +10,7 @@ ghost use Rattle.zoneset.specs.Held.{held};
 use bits::{has_bit, set_bit};
 
 // A set of zone numbers below 1,024. Of a set without a number no word is looked at.
-#[derive(Clone, Copy)]
+#[derive(Clone, Copy, Debug, Default, PartialEq, Eq, PartialOrd, Ord, Hash)]
 pub struct ZoneSet {
     words: [u16; 64],
     any: bool,

@@ -1,7 +1,6 @@
 use native.Mathlib.Omega.{arith}
 use mathlib.Core.Path.{◌≡◌}
-use Prim.Native.Nat.{ℕ, ◌<◌}
-use lib.ListN.{length, get_or}
+use lib.ListN.{get_or}
 use lib.Seq.{get_or-take, get_or-drop}
 use Rattle.theory.proofs.Ground.Indices.{at_in}
 use Rattle.zoneset.proofs.SetLaws.{fill_none, fill_turn, fill_all}
